@@ -1,0 +1,4 @@
+pub mod Rounding
+pub mod Signs
+pub mod Number
+pub mod Thin

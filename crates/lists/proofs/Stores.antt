@@ -1,0 +1,54 @@
+-- Runs of stores, `sets`, which leave out what lies past the end. Assumes nothing.
+use mathlib.Core.Path.{_≡_, refl, sym, ap, _∙_}
+use mathlib.Core.List.{List, [], _∷_, _++_}
+use Prim.Native.Nat.{ℕ, zero, suc, _+_, _-_, _*_, _≤_, _<_}
+use native.Mathlib.Nat.{add-zero, add-suc, suc-add, sub-zero, mul-suc, add-assoc}
+use native.Mathlib.Numerals.{add-one}
+use native.Mathlib.Omega.{arith}
+use lib.ListN.{length, set}
+use lib.Seq.{sets}
+use Rattle.lists.specs.Loops.{list, join}
+use Rattle.lists.proofs.Loops.{list-step}
+
+module _ {A : Type 0} where
+  -- one run behind another
+  pub sets-append : (l : List A) (i : ℕ) (a b : List A) → sets (sets l i a) (i + length a) b ≡ sets l i (a ++ b)
+  sets-append l i [] b = rw add-zero
+  sets-append l i (x ∷ a) b = rw (add-suc, ← suc-add) (sets-append (set l i x) (suc i) a b)
+
+  -- three stores one after the other
+  pub sets-three : (l : List A) (i : ℕ) (x y z : A) → set (set (set l i x) (i + 1) y) (i + 2) z ≡ sets l i (x ∷ y ∷ z ∷ [])
+  sets-three l i x y z = rw (two, add-one i)
+    where
+      two : i + 2 ≡ suc (suc i)
+      two = omega arith
+
+-- Records of w numbers, stored one after the other from place `at` on, counted in records: the facts that a loop's invariant
+-- `sets s (w * (at + i)) (join write (list f (n - i) i)) ≡ t` asks for, at the start, after one turn of the loop, and at the end.
+module _ {A B : Type 0} (write : A → List B) (w : ℕ) (wide : (a : A) → length (write a) ≡ w) (f : ℕ → A) (n at : ℕ) where
+  pub store-start : (s : List B) → sets s (w * (at + 0)) (join write (list f (n - 0) 0)) ≡ sets s (w * at) (join write (list f n 0))
+  store-start s = rw (add-zero, sub-zero)
+
+  pub store-next : (i : ℕ) (s s′ t : List B) → i < n → s′ ≡ sets s (w * (at + i)) (write (f i)) → sets s (w * (at + i)) (join write (list f (n - i) i)) ≡ t
+      → sets s′ (w * (at + (i + 1))) (join write (list f (n - (i + 1)) (i + 1))) ≡ t
+  unfolding join
+  store-next i s s′ t h e p =
+      ap (λ (k : ℕ). sets s′ (w * (at + k)) (join write (list f (n - k) k))) (add-one i)
+      ∙ ap (λ (l : List B). sets l (w * (at + suc i)) rest) e
+      ∙ ap (λ (k : ℕ). sets (sets s (w * (at + i)) (write (f i))) k rest) place
+      ∙ sets-append s (w * (at + i)) (write (f i)) rest
+      ∙ sym (ap (λ (l : List A). sets s (w * (at + i)) (join write l)) (list-step f n i h))
+      ∙ p
+    where
+      rest : List B
+      rest = join write (list f (n - suc i) (suc i))
+
+      place : w * (at + suc i) ≡ w * (at + i) + length (write (f i))
+      place = ap (λ (k : ℕ). w * k) (add-suc at i) ∙ mul-suc w (at + i) ∙ ap (λ (k : ℕ). w * (at + i) + k) (sym (wide (f i)))
+
+  pub store-end : (i : ℕ) (s t : List B) → n ≤ i → sets s (w * (at + i)) (join write (list f (n - i) i)) ≡ t → s ≡ t
+  unfolding join list
+  store-end i s t h p = sym (ap (λ (m : ℕ). sets s (w * (at + i)) (join write (list f m i))) none) ∙ p
+    where
+      none : n - i ≡ zero
+      none = omega arith
