@@ -1,0 +1,178 @@
+-- Document 01, sections 1 and 2: a scene's bytes, as a list of objects or as the refusal that is met first.
+use Prim.Native.Nat.{ℕ, zero, suc, _+_, _-_, _*_}
+use mathlib.Core.Bool.{Bool, true, false, not, _&&_, _||_, cond}
+use mathlib.Core.List.{List, [], _∷_}
+use lib.ListN.{length, getD}
+use lib.Dec.{ltb, eqb}
+use lib.Ieee.{Float, binary32, binary64, ofBits}
+use Rattle.lists.specs.Loops.{every, list, sumOf}
+use Rattle.float.specs.Number.{allowed32, allowed64}
+use Rattle.coords.specs.declared.Point.{Point}
+use Rattle.coords.specs.Coords.{point}
+use Rattle.object.specs.declared.Corner.{Corner}
+use Rattle.object.specs.declared.Extent.{Extent}
+use Rattle.object.specs.declared.Extent.the-variants.{Box, Cylinder, Unsized}
+use Rattle.object.specs.declared.Pair.{Pair}
+use Rattle.object.specs.declared.Section.{Section}
+use Rattle.object.specs.declared.Orientation.{Orientation}
+use Rattle.object.specs.Object.{Shape, solid, outline, sweep, roundSweep, Object}
+use Rattle.scene.specs.declared.Refusal.{Refusal}
+use Rattle.scene.specs.declared.Refusal.the-variants.{Length, Trailer, Start, Past, Kind, Counts, Numbers}
+
+-- ---- refusals: the rows of section 2, by what is checked, and their numbers
+
+abbrev pub numberOf : Refusal → ℕ
+numberOf Length = 1
+numberOf Trailer = 2
+numberOf Start = 3
+numberOf Past = 4
+numberOf Kind = 5
+numberOf Counts = 6
+numberOf Numbers = 7
+
+-- ---- fields of the record that begins at a place
+
+unfoldable pub u16At : List ℕ → ℕ → ℕ
+u16At s i = getD s i 0 + 256 * getD s (i + 1) 0
+
+unfoldable pub u32At : List ℕ → ℕ → ℕ
+u32At s i = u16At s i + 65536 * u16At s (i + 2)
+
+unfoldable pub f32At : List ℕ → ℕ → Float
+f32At s i = ofBits binary32 (u32At s i)
+
+unfoldable pub u64At : List ℕ → ℕ → ℕ
+u64At s i = u32At s i + 4294967296 * u32At s (i + 4)
+
+unfoldable pub f64At : List ℕ → ℕ → Float
+f64At s i = ofBits binary64 (u64At s i)
+
+unfoldable pub pointAt : List ℕ → ℕ → Point
+pointAt s i = point (f32At s i) (f32At s (i + 4)) (f32At s (i + 8))
+
+unfoldable pub cornerAt : List ℕ → ℕ → Corner
+cornerAt s i = record { base = pointAt s i; top = pointAt s (i + 12) }
+
+unfoldable pub sectionAt : List ℕ → ℕ → Section
+sectionAt s i = record { left = cornerAt s i; right = cornerAt s (i + 24) }
+
+unfoldable pub pairAt : List ℕ → ℕ → Pair
+pairAt s i = record { sin = f64At s i; cos = f64At s (i + 8) }
+
+unfoldable pub orientationAt : List ℕ → ℕ → Orientation
+orientationAt s i = record { heading = pairAt s i; pitch = pairAt s (i + 16); roll = pairAt s (i + 32) }
+
+-- n corners, n sections and n u16 from place i on
+unfoldable pub cornersAt : List ℕ → ℕ → ℕ → List Corner
+cornersAt s n i = list (λ k. cornerAt s (i + 24 * k)) n 0
+
+unfoldable pub sectionsAt : List ℕ → ℕ → ℕ → List Section
+sectionsAt s n i = list (λ k. sectionAt s (i + 48 * k)) n 0
+
+unfoldable pub countsAt : List ℕ → ℕ → ℕ → List ℕ
+countsAt s n i = list (λ k. u16At s (i + 2 * k)) n 0
+
+-- the corners of each hole, one hole behind the other from place i on
+unfoldable pub holesAt : List ℕ → List ℕ → ℕ → List (List Corner)
+holesAt s [] i = []
+holesAt s (c ∷ cs) i = cornersAt s c i ∷ holesAt s cs (i + 24 * c)
+
+-- n numbers from place i on are allowed
+unfoldable pub all32 : List ℕ → ℕ → ℕ → Bool
+all32 s n i = every (λ x. allowed32 x) (list (λ k. f32At s (i + 4 * k)) n 0)
+
+unfoldable pub all64 : List ℕ → ℕ → ℕ → Bool
+all64 s n i = every (λ x. allowed64 x) (list (λ k. f64At s (i + 8 * k)) n 0)
+
+-- ---- one record
+
+-- a record: the refusal, or the object and the place where the record ends
+pub data Record : Type 0 where
+  bad : Refusal → Record
+  good : Object → ℕ → Record
+
+-- The record's rest, of n bytes from place i on, before the trailer's start e: Past where it passes e, Numbers where one is not allowed.
+unfoldable pub rest : ℕ → ℕ → ℕ → Bool → Object → Record
+rest e i n allowed o = cond (ltb e (i + n)) (bad Past) (cond (not allowed) (bad Numbers) (good o (i + n)))
+
+-- a solid, its position at place i, with w sizes
+unfoldable pub solidAt : List ℕ → ℕ → ℕ → ℕ → ℕ → Extent → Record
+solidAt s e id i w x =
+    rest e i (60 + 4 * w) (all32 s 3 i && all64 s 6 (i + 12) && all32 s w (i + 60)) (record { id = id; shape = solid (pointAt s i) (orientationAt s (i + 12)) x })
+
+-- an outline's corners from place i on: c outer ones, then those of each hole
+unfoldable pub outlineCorners : List ℕ → ℕ → ℕ → Bool → ℕ → List ℕ → ℕ → Record
+outlineCorners s e id closed c counts i =
+    let n = c + sumOf (λ k. k) counts in
+    cond (ltb 512 n) (bad Counts)
+    (rest e i (24 * n) (all32 s (6 * n) i) (record { id = id; shape = outline closed (cornersAt s c i) (holesAt s counts (i + 24 * c)) }))
+
+-- an outline, its counts at place i
+unfoldable pub outlineAt : List ℕ → ℕ → ℕ → Bool → ℕ → Record
+outlineAt s e id closed i =
+    let holes = u16At s (i + 2) in
+    cond (ltb e (i + 4)) (bad Past)
+    (cond (ltb 32 holes) (bad Counts)
+    (cond (ltb e (i + 4 + 2 * holes)) (bad Past)
+    (outlineCorners s e id closed (u16At s i) (countsAt s holes (i + 4)) (i + 4 + 2 * holes))))
+
+-- a sweep, its count at place i
+unfoldable pub sweepAt : List ℕ → ℕ → ℕ → (List Section → Shape) → ℕ → Record
+sweepAt s e id shape i =
+    let n = u16At s i in
+    cond (ltb e (i + 2)) (bad Past)
+    (cond (ltb 4096 n) (bad Counts)
+    (rest e (i + 2) (48 * n) (all32 s (12 * n) (i + 2)) (record { id = id; shape = shape (sectionsAt s n (i + 2)) })))
+
+-- what follows the kind and the id, by the kind
+unfoldable pub kindAt : List ℕ → ℕ → ℕ → ℕ → ℕ → Record
+kindAt s e id i kind =
+    cond (eqb kind 0) (solidAt s e id i 0 Unsized)
+    (cond (eqb kind 1) (solidAt s e id i 3 (Box (f32At s (i + 60)) (f32At s (i + 64)) (f32At s (i + 68))))
+    (cond (eqb kind 2) (solidAt s e id i 2 (Cylinder (f32At s (i + 60)) (f32At s (i + 64))))
+    (cond (eqb kind 3) (outlineAt s e id false i)
+    (cond (eqb kind 4) (outlineAt s e id true i)
+    (cond (eqb kind 5) (sweepAt s e id sweep i)
+    (cond (eqb kind 6) (sweepAt s e id roundSweep i)
+    (bad Kind)))))))
+
+-- the record at place i, before the trailer's start e
+unfoldable pub recordAt : List ℕ → ℕ → ℕ → Record
+recordAt s e i = cond (ltb e (i + 5)) (bad Past) (kindAt s e (u32At s (i + 1)) (i + 5) (getD s i 0))
+
+-- ---- the scene
+
+-- the refusal and the object named, or the objects
+pub data Scene : Type 0 where
+  refused : Refusal → ℕ → Scene
+  accepted : List Object → Scene
+
+unfoldable pub prepend : Object → Scene → Scene
+prepend o (refused r object) = refused r object
+prepend o (accepted os) = accepted (o ∷ os)
+
+-- record number k and those behind it, `later` being those from a place on
+unfoldable pub recordThen : ℕ → (ℕ → Scene) → Record → Scene
+recordThen k later (bad r) = refused r k
+recordThen k later (good o next) = prepend o (later next)
+
+-- The records from number k on, of which n are left, from place i on, with the trailer's start e.
+unfoldable pub recordsFrom : List ℕ → ℕ → ℕ → ℕ → ℕ → Scene
+recordsFrom s e zero k i = cond (eqb i e) (accepted []) (refused Start k)
+recordsFrom s e (suc n) k i =
+    let found = recordThen k (λ next. recordsFrom s e n (suc k) next) (recordAt s e i) in
+    cond (eqb (u32At s (e + 4 * k)) i) found (refused Start k)
+
+-- The trailer's start in a scene of n objects, and how many objects the scene has.
+unfoldable pub trailer : List ℕ → ℕ → ℕ
+trailer s n = length s - (4 * n + 4)
+
+unfoldable pub countAt : List ℕ → ℕ
+countAt s = u32At s (length s - 4)
+
+unfoldable pub scene : List ℕ → Scene
+scene s =
+    let n = countAt s in
+    cond (ltb (length s) 4 || ltb 16777216 (length s)) (refused Length 0)
+    (cond (ltb 65536 n || ltb (length s) (4 * n + 4)) (refused Trailer 0)
+    (recordsFrom s (trailer s n) n 0 0))
