@@ -1,0 +1,8 @@
+pub mod Computes
+pub mod Counts
+pub mod Corners
+pub mod Written
+pub mod Good
+pub mod Offers
+pub mod Draws
+pub mod OneFace

@@ -1,0 +1,109 @@
+-- One face drawn: what its triangles came to, and its points stored, are what specs/Faces.antt writes of it. Assumes nothing.
+use mathlib.Core.Path.{_≡_, refl, sym, ap, _∙_}
+use Prim.Native.Nat.{ℕ, _+_, _*_, _/_}
+use native.Mathlib.Nat.{add-zero, zero-add}
+use native.Mathlib.Omega.{arith}
+use mathlib.Core.List.{List, [], _∷_, append-nil}
+use lib.ListN.{length, replicate}
+use lib.Seq.{sets}
+use lib.Ieee.{Float}
+use Rattle.lists.specs.Loops.{join, sumOf}
+use Rattle.lists.proofs.Lists.{length-list}
+use Rattle.lists.proofs.Buffers.{threes-back}
+use Rattle.coords.specs.declared.Vector.{Vector}
+use Rattle.coords.specs.Coords.{unitZ, normalizeOr}
+use Rattle.coords.specs.Buffers.{vertexNumbers, normalNumbers, verticesIn}
+use Rattle.buffers.proofs.Vertices.{length-vertices}
+use Rattle.face.specs.declared.Tally.{Tally}
+use Rattle.face.specs.Faces.{Triangle, triangle, Face, thinIn, keptOf, faceNormal, nothing, behind, numbered, writeKept, writeFace, writeFaces}
+use Rattle.face.specs.Offered.{triangleRecord, triangleAt, trianglesIn, Offered, offered, noSum, offerAll}
+use Rattle.face.specs.Drawing.{tally, Drawing, drawing, counted, drawn, Drew, faceIn}
+use Rattle.face.proofs.Counts.{face-account}
+use Rattle.face.proofs.Offers.{added, offered-all}
+use Rattle.face.proofs.Draws.{same-drawing, same-tally, put}
+
+pub length-triangles : (xs : List ℕ) → length (trianglesIn xs) ≡ length xs / 3
+unfolding trianglesIn
+length-triangles xs = length-list (triangleAt xs) (length xs / 3) 0
+
+-- triangles written as numbers and read back are the same
+pub triangles-back : (ts : List Triangle) → trianglesIn (join triangleRecord ts) ≡ ts
+unfolding trianglesIn
+triangles-back ts = threes-back triangle (λ (t : Triangle). t .a) (λ (t : Triangle). t .b) (λ (t : Triangle). t .c) (λ t. refl) 0 ts
+
+-- a list of one face
+drawn-one : (limit : Float) (f : Face) (before : ℕ) (d : Drawing)
+    → drawn limit (f ∷ []) before d ≡ put (writeFace limit (before + d .tally .vertices) f) (length (keptOf limit f)) (thinIn limit f) d
+unfolding drawn counted writeFaces behind nothing sumOf put
+drawn-one limit f before d = simp (append-nil, add-zero)
+
+module _ (limit : Float) (first : ℕ) (f : Face) (h : ℕ) (t : Tally) (vs ns : List Float) (is : List ℕ) where
+  put-none : (ks : List Triangle) → length ks ≡ 0
+      → drawing (tally (t .vertices) (t .kept) (t .thin + h)) vs ns (sets is (3 * t .kept) (numbered first ks)) ≡ put (writeKept limit first f ks) (length ks) h (drawing t vs ns is)
+  unfolding put writeKept nothing numbered join vertexNumbers normalNumbers
+  put-none [] e = same-drawing (same-tally (sym (add-zero (t .vertices))) (sym (add-zero (t .kept))) refl) refl refl refl
+  put-none (k ∷ ks) e = absurd (omega arith)
+
+  put-some : (ks : List Triangle) → (length ks ≡ 0 → ⊥)
+      → drawing (tally (t .vertices + length (f .points)) (t .kept + length ks) (t .thin + h)) (sets vs (3 * t .vertices) (vertexNumbers (f .points)))
+      (sets ns (3 * t .vertices) (normalNumbers (replicate (length (f .points)) (faceNormal limit f)))) (sets is (3 * t .kept) (numbered first ks))
+      ≡ put (writeKept limit first f ks) (length ks) h (drawing t vs ns is)
+  unfolding put writeKept
+  put-some [] e = absurd (e refl)
+  put-some (k ∷ ks) e = refl
+
+module _ (limit : Float) (points : List Float) (triangles : List ℕ) (out : Vector) where
+  abbrev all : ℕ → ℕ → List ℕ → Offered
+  all base n is = offerAll limit (verticesIn points) out base n is (trianglesIn triangles)
+
+  all-added : (base n : ℕ) (is : List ℕ) → all base n is ≡ added limit (verticesIn points) out base n (offered noSum is) (trianglesIn triangles)
+  unfolding offerAll
+  all-added base n is = offered-all limit (verticesIn points) out base n (trianglesIn triangles) (offered noSum is)
+
+  module _ (part base n : ℕ) (is : List ℕ) (o : Offered) (e : o ≡ all base n is) where
+    kept-is : o .sum .kept ≡ length (keptOf limit (faceIn part points triangles out))
+    unfolding added keptOf
+    kept-is = ap (λ (x : Offered). x .sum .kept) (e ∙ all-added base n is) ∙ zero-add _
+
+    thin-is : o .sum .thin ≡ thinIn limit (faceIn part points triangles out)
+    unfolding added thinIn
+    thin-is = ap (λ (x : Offered). x .sum .thin) (e ∙ all-added base n is) ∙ zero-add _
+
+    normal-is : normalizeOr (o .sum .normal) unitZ ≡ faceNormal limit (faceIn part points triangles out)
+    unfolding added faceNormal
+    normal-is = ap (λ (x : Offered). normalizeOr (x .sum .normal) unitZ) (e ∙ all-added base n is)
+
+    indices-are : o .indices ≡ sets is (3 * n) (numbered base (keptOf limit (faceIn part points triangles out)))
+    unfolding added keptOf
+    indices-are = ap (λ (x : Offered). x .indices) (e ∙ all-added base n is) ∙ rw add-zero
+
+    -- each triangle is kept or thin
+    pub all-counted : o .sum .kept + o .sum .thin ≡ length triangles / 3
+    all-counted = omega (arith, kept-is, thin-is, face-account limit (faceIn part points triangles out), length-triangles triangles)
+
+  module _ (before : ℕ) (t : Tally) (vs ns : List Float) (is : List ℕ) (o : Offered) (e : o ≡ all (before + t .vertices) (t .kept) is) (part : ℕ) where
+    abbrev f : Face
+    f = faceIn part points triangles out
+
+    abbrev first : ℕ
+    first = before + t .vertices
+
+    pub face-none : o .sum .kept ≡ 0
+        → Drew limit (f ∷ []) before (drawing t vs ns is) (drawing (tally (t .vertices) (t .kept) (t .thin + o .sum .thin)) vs ns (o .indices))
+    unfolding writeFace
+    face-none z = record {
+      after =
+          rw (indices-are part first (t .kept) is o e, thin-is part first (t .kept) is o e)
+          (put-none limit first f (thinIn limit f) t vs ns is (keptOf limit f) (sym (kept-is part first (t .kept) is o e) ∙ z) ∙ sym (drawn-one limit f before (drawing t vs ns is)));
+    }
+
+    pub face-some : (o .sum .kept ≡ 0 → ⊥)
+        → Drew limit (f ∷ []) before (drawing t vs ns is)
+        (drawing (tally (t .vertices + length points / 3) (t .kept + o .sum .kept) (t .thin + o .sum .thin)) (sets vs (3 * t .vertices) (vertexNumbers (verticesIn points)))
+        (sets ns (3 * t .vertices) (normalNumbers (replicate (length (verticesIn points)) (normalizeOr (o .sum .normal) unitZ)))) (o .indices))
+    unfolding writeFace
+    face-some z = record {
+      after =
+          rw (indices-are part first (t .kept) is o e, thin-is part first (t .kept) is o e, kept-is part first (t .kept) is o e, normal-is part first (t .kept) is o e, ← length-vertices points)
+          (put-some limit first f (thinIn limit f) t vs ns is (keptOf limit f) (λ q. z (kept-is part first (t .kept) is o e ∙ q)) ∙ sym (drawn-one limit f before (drawing t vs ns is)));
+    }

@@ -1,0 +1,116 @@
+-- `face::put_vertices` meets its contract: with the points from k on stored too, the buffers hold all. Assumes nothing.
+use mathlib.Core.Path.{_≡_, refl, ap, _∙_}
+use mathlib.Core.List.{List, [], _∷_}
+use Prim.Native.Nat.{ℕ, _+_, _-_, _*_, _≤_, _/_}
+use native.Mathlib.Omega.{arith}
+use lib.ListN.{length, replicate}
+use lib.Seq.{sets}
+use lib.Ieee.{Float}
+use borrow.Author.Needs.{needs}
+use Rattle.buffers.proofs.Vertices.{length-vertices}
+use Rattle.coords.specs.declared.Point.{Point}
+use Rattle.coords.specs.Buffers.{vertexRecord, vertexNumbers, normalRecord, normalNumbers, vertexAt, verticesIn}
+use Rattle.lists.proofs.Lists.{list-constant}
+use Rattle.lists.proofs.Stores.{store-start, store-next, store-end}
+use Rattle.lists.specs.Loops.{list, join}
+use Rattle.face.proofs.put_vertices.Statement.{statement}
+use Rattle.face.proofs.put_vertices.Tie as tie
+
+point-stored : (s : List Float) (i : ℕ) {s′ : List Float} {p q : Point} → p ≡ q → s′ ≡ sets s i (p .x ∷ p .y ∷ p .z ∷ []) → s′ ≡ sets s i (vertexRecord q)
+point-stored s i e h = rw (← e) h
+
+abbrev Inv-loop : tie.InvT-loop
+Inv-loop points normal at vs₀ ns₀ n k₀ vs ns k =
+    (k ≤ n) × (length vs ≡ length vs₀) × (length ns ≡ length ns₀)
+    × (sets vs (3 * (at + k)) (join vertexRecord (list (vertexAt points) (n - k) k)) ≡ sets vs₀ (3 * at) (vertexNumbers (verticesIn points)))
+    × (sets ns (3 * (at + k)) (join normalRecord (list (λ i. normal) (n - k) k)) ≡ sets ns₀ (3 * at) (normalNumbers (replicate (length (verticesIn points)) normal)))
+
+abbrev μ-loop : tie.MeasureT-loop
+μ-loop points normal at vs₀ ns₀ n k₀ vs ns k = n - k
+
+cast-n : tie.Need-cast-n Inv-loop μ-loop
+cast-n c = search needs
+
+loop-holds : tie.Need-loop-holds Inv-loop μ-loop
+unfolding vertexNumbers normalNumbers verticesIn
+loop-holds c =
+    let a = c .before .before .before .args in
+    let n = length (a .points .now) / 3 in (
+      omega arith,
+      refl,
+      refl,
+      store-start vertexRecord 3 (λ p. refl) (vertexAt (a .points .now)) n (a .at) (a .vs .now),
+      store-start normalRecord 3 (λ v. refl) (λ i. a .normal) n (a .at) (a .ns .now) ∙ rw (list-constant (a .normal) n 0, length-vertices (a .points .now)),
+    )
+
+wide-requires : tie.Need-wide-requires Inv-loop μ-loop
+wide-requires c κs = search needs
+
+vertex-at-requires : tie.Need-vertex-at-requires Inv-loop μ-loop
+vertex-at-requires c κs = omega arith
+
+add-put-floats : tie.Need-add-put-floats Inv-loop μ-loop
+add-put-floats c = omega arith
+
+put-floats-requires : tie.Need-put-floats-requires Inv-loop μ-loop
+put-floats-requires c κs = search needs
+
+add-put-floats-2 : tie.Need-add-put-floats-2 Inv-loop μ-loop
+add-put-floats-2 c = omega arith
+
+put-floats-requires-2 : tie.Need-put-floats-requires-2 Inv-loop μ-loop
+put-floats-requires-2 c κs = search needs
+
+add-k : tie.Need-add-k Inv-loop μ-loop
+add-k c = omega arith
+
+loop-less : tie.Need-loop-less Inv-loop μ-loop
+loop-less c = omega arith
+
+loop-again : tie.Need-loop-again Inv-loop μ-loop
+loop-again c =
+    let a = c .before .before .before .before .before .before .before .before .before .before .before .before .before .before .before .args in
+    let l = c .before .before .before .before .before .before .before .before .before .before .before .loop in
+    let n = length (a .points .now) / 3 in (
+      omega arith,
+      search needs,
+      search needs,
+      store-next vertexRecord 3 (λ p. refl) (vertexAt (a .points .now)) n (a .at) (l .k) (l .vs) _ _ (omega arith) (point-stored (l .vs) (3 * (a .at + l .k)) (c .before .before .before .before .before .before .before .before .vertex-at .ensures ∙ ap (vertexAt (a .points .now)) (c .before .before .before .before .before .before .before .before .before .wide .ensures)) (c .before .before .before .before .before .before .put-floats .ensures)) (l .inv .3),
+      store-next normalRecord 3 (λ v. refl) (λ i. a .normal) n (a .at) (l .k) (l .ns) _ _ (omega arith) (c .before .before .put-floats2 .ensures) (l .inv .4),
+    )
+
+same-length : tie.Need-same-length Inv-loop μ-loop
+same-length c = search needs
+
+same-length-2 : tie.Need-same-length-2 Inv-loop μ-loop
+same-length-2 c = search needs
+
+returns : tie.Need-returns Inv-loop μ-loop
+returns c =
+    let a = c .before .before .before .before .before .args in
+    let l = c .before .loop in
+    let n = length (a .points .now) / 3 in (
+      store-end vertexRecord 3 (λ p. refl) (vertexAt (a .points .now)) n (a .at) (l .k) (l .vs) _ (c .loop-test .left) (l .inv .3),
+      store-end normalRecord 3 (λ v. refl) (λ i. a .normal) n (a .at) (l .k) (l .ns) _ (c .loop-test .left) (l .inv .4),
+    )
+
+pub put-vertices-spec : {M : Type 1} → statement M
+put-vertices-spec =
+    tie.close
+    (tie.spec
+    Inv-loop
+    μ-loop
+    cast-n
+    loop-holds
+    wide-requires
+    vertex-at-requires
+    add-put-floats
+    put-floats-requires
+    add-put-floats-2
+    put-floats-requires-2
+    add-k
+    loop-less
+    loop-again
+    same-length
+    same-length-2
+    returns)

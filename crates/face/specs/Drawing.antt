@@ -1,0 +1,54 @@
+-- What drawing faces leaves in the lent buffers and counts: the one form of contract for all that draws. Definitions only.
+use mathlib.Core.Path.{_≡_}
+use Prim.Native.Nat.{ℕ, _+_, _*_, _<_, _^_}
+use mathlib.Core.List.{List}
+use lib.ListN.{length}
+use lib.Seq.{sets}
+use lib.Ieee.{Float}
+use Rattle.lists.specs.Loops.{sumOf}
+use Rattle.coords.specs.declared.Vector.{Vector}
+use Rattle.coords.specs.Buffers.{vertexNumbers, normalNumbers, verticesIn}
+use Rattle.face.specs.declared.Tally.{Tally}
+use Rattle.face.specs.Faces.{Face, thinIn, keptOf, writeFaces}
+use Rattle.face.specs.Offered.{trianglesIn}
+
+abbrev pub tally : ℕ → ℕ → ℕ → Tally
+tally vertices kept thin = record { vertices = vertices; kept = kept; thin = thin }
+
+-- the buffers, and what has been written to them and counted so far
+pub record Drawing : Type 0 where
+  pub tally : Tally
+  pub vertices : List Float
+  pub normals : List Float
+  pub indices : List ℕ
+
+abbrev pub drawing : Tally → List Float → List Float → List ℕ → Drawing
+drawing t vs ns is = record { tally = t; vertices = vs; normals = ns; indices = is }
+
+-- the counts with those of faces drawn from vertex number `first` on
+unfoldable pub counted : Float → ℕ → List Face → Tally → Tally
+counted limit first faces t =
+    tally (t .vertices + length (writeFaces limit first faces .vertices)) (t .kept + sumOf (λ f. length (keptOf limit f)) faces) (t .thin + sumOf (thinIn limit) faces)
+
+-- the faces drawn behind what stands in the buffers; `before` vertices lie before the buffers. A store past a buffer's end is left out.
+unfoldable pub drawn : Float → List Face → ℕ → Drawing → Drawing
+drawn limit faces before d =
+    let t = d .tally in
+    let first = before + t .vertices in
+    let p = writeFaces limit first faces in
+    drawing (counted limit first faces t) (sets (d .vertices) (3 * t .vertices) (vertexNumbers (p .vertices)))
+    (sets (d .normals) (3 * t .vertices) (normalNumbers (p .normals))) (sets (d .indices) (3 * t .kept) (p .indices))
+
+-- drawing the faces took the buffers and the counts from d to d′
+pub record Drew (limit : Float) (faces : List Face) (before : ℕ) (d d′ : Drawing) : Type 0 where
+  pub after : d′ ≡ drawn limit faces before d
+
+-- v vertices and k triangles more stay below 2 ^ 32
+pub record Room (before : ℕ) (t : Tally) (v k : ℕ) : Type 0 where
+  pub vertices : before + t .vertices + v < 2 ^ 32
+  pub kept : t .kept + k < 2 ^ 32
+  pub thin : t .thin + k < 2 ^ 32
+
+-- the face whose points and triangles are lent as numbers, three to one
+abbrev pub faceIn : ℕ → List Float → List ℕ → Vector → Face
+faceIn part points triangles out = record { points = verticesIn points; triangles = trianglesIn triangles; out = out; part = part }

@@ -1,0 +1,85 @@
+-- Document 01, sections 2 (row 11) and 7, and `Mesh::validate`: the verdict on a mesh, at a limit below which a triangle is thin.
+use Prim.Native.Nat.{ℕ, suc, _%_}
+use mathlib.Core.Bool.{Bool, not, _||_, cond}
+use mathlib.Core.List.{List, [], _∷_}
+use lib.ListN.{length, getD}
+use lib.Dec.{leb, eqb}
+use lib.Ieee.{Float}
+use Rattle.lists.specs.declared.Found.{Found}
+use Rattle.lists.specs.declared.Found.the-variants.{At, Nowhere}
+use Rattle.lists.specs.Loops.{first}
+use Rattle.float.specs.Number.{minArea}
+use Rattle.coords.specs.declared.Point.{Point}
+use Rattle.coords.specs.Buffers.{verticesIn}
+use Rattle.coords.specs.Coords.{noArea, origin, finitePoint}
+use Rattle.mesh.specs.declared.Judgement.{Judgement}
+use Rattle.mesh.specs.declared.Validation.{Validation}
+use Rattle.mesh.specs.declared.Validation.the-variants.{Judged, PartialVertex}
+use Rattle.mesh.specs.declared.Verdict.{Verdict}
+use Rattle.mesh.specs.declared.Verdict.the-variants.{Ok, Empty, NonFiniteVertex, IndexOutOfRange, DegenerateTriangle}
+
+unfoldable pub degenerate : Float → List Point → ℕ → ℕ → ℕ → Bool
+degenerate limit vs a b c =
+    eqb a b || eqb b c || eqb a c || noArea limit (getD vs a origin) (getD vs b origin) (getD vs c origin)
+
+-- the triangles from number t on
+unfoldable pub trianglesFrom : Float → List Point → ℕ → List ℕ → Verdict
+trianglesFrom limit vs t [] = Ok
+trianglesFrom limit vs t (a ∷ []) = let n = length vs in cond (leb n a) (IndexOutOfRange t a n) (DegenerateTriangle t)
+trianglesFrom limit vs t (a ∷ b ∷ []) =
+    let n = length vs in
+    cond (leb n a) (IndexOutOfRange t a n) (cond (leb n b) (IndexOutOfRange t b n) (DegenerateTriangle t))
+trianglesFrom limit vs t (a ∷ b ∷ c ∷ rest) =
+    let n = length vs in
+    let later = trianglesFrom limit vs (suc t) rest in
+    cond (leb n a) (IndexOutOfRange t a n)
+    (cond (leb n b) (IndexOutOfRange t b n)
+    (cond (leb n c) (IndexOutOfRange t c n)
+    (cond (degenerate limit vs a b c) (DegenerateTriangle t) later)))
+
+-- a triangle's verdict, and that of the later ones where it is in order
+unfoldable pub orLater : Verdict → Verdict → Verdict
+orLater Ok later = later
+orLater Empty later = Empty
+orLater (NonFiniteVertex i) later = NonFiniteVertex i
+orLater (IndexOutOfRange t i n) later = IndexOutOfRange t i n
+orLater (DegenerateTriangle t) later = DegenerateTriangle t
+
+-- vertex i has a NaN or an infinity
+abbrev pub notFinite : List Point → ℕ → Bool
+notFinite vs i = not (finitePoint (getD vs i origin))
+
+-- the vertices are looked at before the triangles
+unfoldable pub verdictAt : Found → Verdict → Verdict
+verdictAt (At i) triangles = NonFiniteVertex i
+verdictAt Nowhere triangles = triangles
+
+unfoldable pub verdict : Float → List Point → List ℕ → Verdict
+verdict limit vs is =
+    let triangles = trianglesFrom limit vs 0 is in
+    cond (eqb (length is) 0) Empty (verdictAt (first (notFinite vs) (length vs) 0) triangles)
+
+-- ---- Validate, with its refusal: the verdict, or PartialVertex where the coordinates' number is no multiple of 3
+
+unfoldable pub validateAt : Float → List Float → List ℕ → Validation
+validateAt limit vertices indices = cond (eqb (length vertices % 3) 0) (Judged (verdict limit (verticesIn vertices) indices)) PartialVertex
+
+unfoldable pub validate : List Float → List ℕ → Validation
+validate vertices indices = validateAt minArea vertices indices
+
+-- ---- in numbers: the refusal of document 01, section 2, and 0 where there is none; the object named, 0; the verdict, in the order of the Rust's cases; the
+-- index that names no vertex; the place, which is the vertex or the triangle; and the count of vertices. What a case does not have is 0.
+
+abbrev pub judgement : ℕ → ℕ → ℕ → ℕ → ℕ → Judgement
+judgement refusal verdict index place count = record { refusal = refusal; object = 0; verdict = verdict; index = index; place = place; count = count }
+
+unfoldable pub verdictNumbers : Verdict → Judgement
+verdictNumbers Ok = judgement 0 0 0 0 0
+verdictNumbers Empty = judgement 0 1 0 0 0
+verdictNumbers (NonFiniteVertex i) = judgement 0 2 0 i 0
+verdictNumbers (IndexOutOfRange t i n) = judgement 0 3 i t n
+verdictNumbers (DegenerateTriangle t) = judgement 0 4 0 t 0
+
+unfoldable pub validationNumbers : Validation → Judgement
+validationNumbers (Judged v) = verdictNumbers v
+validationNumbers PartialVertex = judgement 11 0 0 0 0

@@ -1,0 +1,191 @@
+// Whether a mesh can back a physics collider, and if not, why: `Mesh::validate` of mesh.rs.
+ghost use mathlib.Core.Path.{_≡_};
+ghost use Prim.Native.Nat.{_+_, _<_, _/_};
+ghost use lib.ListN.{length, drop};
+ghost use Rattle.lists.specs.Loops.{first};
+ghost use Rattle.coords.specs.Coords.{noArea};
+ghost use Rattle.coords.specs.Buffers.{verticesIn};
+ghost use Rattle.mesh.specs.Validate.{notFinite, degenerate, trianglesFrom, orLater, validateAt, validate, judgement, verdictNumbers, validationNumbers};
+use coords::Point;
+use lists::Found;
+
+// Twice the area, in square metres, below which a triangle has none worth drawing or colliding with.
+const MIN_AREA: f32 = 0.000001;
+
+pub enum Verdict {
+    Ok,
+    // No triangles at all.
+    Empty,
+    // A vertex with a NaN or an infinity.
+    NonFiniteVertex(usize),
+    // A triangle, the vertex that it names, and how many vertices there are.
+    IndexOutOfRange(usize, u32, usize),
+    // A triangle that repeats a vertex, whose corners lie in a line, or which lacks a corner.
+    DegenerateTriangle(usize),
+}
+
+// What Validate answers: a verdict, or that the vertices' numbers are no whole threes.
+pub enum Validation {
+    Judged(Verdict),
+    PartialVertex,
+}
+
+// A validation in numbers: `validationNumbers` of specs/Validate.antt gives them for each case.
+#[repr(C)]
+pub struct Judgement {
+    pub refusal: u32,
+    pub object: u32,
+    pub verdict: u32,
+    pub index: u32,
+    pub place: u64,
+    pub count: u64,
+}
+
+fn no_area(limit: f32, a: Point, b: Point, c: Point) -> bool
+    ensures { λ r. ⌜ r ≡ noArea limit a b c ⌝ }
+{
+    b.sub(a).cross(c.sub(a)).shorter_than(limit)
+}
+
+fn first_not_finite(vertices: &[f32]) -> Found
+    ensures { λ r. ⌜ r ≡ first (notFinite (verticesIn (now (vertices .entry)))) (length (verticesIn (now (vertices .entry)))) 0 ⌝ }
+{
+    let n = vertices.len() / 3;
+    let mut k = 0;
+    while k < n {
+        if !buffers::vertex_at(vertices, k).is_finite() {
+            return Found::At(k);
+        }
+        k = k + 1;
+    }
+    Found::Nowhere
+}
+
+fn wide(x: u32) -> usize
+    ensures { λ r. ⌜ r ≡ x ⌝ }
+{
+    x as usize
+}
+
+// Whether a triangle of vertices that there are repeats one or has too little area.
+fn degenerate(limit: f32, vertices: &[f32], a: usize, b: usize, c: usize) -> bool
+    requires { ⌜ (a < length (now vertices) / 3) × (b < length (now vertices) / 3) × (c < length (now vertices) / 3) ⌝ }
+    ensures { λ r. ⌜ r ≡ degenerate limit (verticesIn (now (vertices .entry))) a b c ⌝ }
+{
+    let thin = no_area(
+        limit,
+        buffers::vertex_at(vertices, a),
+        buffers::vertex_at(vertices, b),
+        buffers::vertex_at(vertices, c),
+    );
+    (a == b) | (b == c) | (a == c) | thin
+}
+
+// What is wrong with triangle t, whose indices stand from place i on, if anything is.
+fn triangle(limit: f32, vertices: &[f32], indices: &[u32], t: usize, i: usize) -> Verdict
+    requires { ⌜ i < length (now indices) ⌝ }
+    ensures { λ r. ⌜ trianglesFrom limit (verticesIn (now (vertices .entry))) t (drop i (now (indices .entry))) ≡ orLater r (trianglesFrom limit (verticesIn (now (vertices .entry))) (t + 1) (drop (i + 3) (now (indices .entry)))) ⌝ }
+{
+    let count = vertices.len() / 3;
+    let a = indices[i];
+    if count <= wide(a) {
+        return Verdict::IndexOutOfRange(t, a, count);
+    }
+    if i + 1 == indices.len() {
+        return Verdict::DegenerateTriangle(t);
+    }
+    let b = indices[i + 1];
+    if count <= wide(b) {
+        return Verdict::IndexOutOfRange(t, b, count);
+    }
+    if i + 2 == indices.len() {
+        return Verdict::DegenerateTriangle(t);
+    }
+    let c = indices[i + 2];
+    if count <= wide(c) {
+        return Verdict::IndexOutOfRange(t, c, count);
+    }
+    if degenerate(limit, vertices, wide(a), wide(b), wide(c)) {
+        return Verdict::DegenerateTriangle(t);
+    }
+    Verdict::Ok
+}
+
+// The triangles' verdict, where all vertices are finite.
+fn triangles(limit: f32, vertices: &[f32], indices: &[u32]) -> Verdict
+    ensures { λ r. ⌜ r ≡ trianglesFrom limit (verticesIn (now (vertices .entry))) 0 (now (indices .entry)) ⌝ }
+{
+    let mut t = 0;
+    let mut i = 0;
+    while i < indices.len() {
+        let v = triangle(limit, vertices, indices, t, i);
+        let Verdict::Ok = v else {
+            return v;
+        };
+        t = t + 1;
+        i = i + 3;
+    }
+    Verdict::Ok
+}
+
+// At a limit below which a triangle is thin.
+pub fn validate_at(limit: f32, vertices: &[f32], indices: &[u32]) -> Validation
+    ensures { λ r. ⌜ r ≡ validateAt limit (now (vertices .entry)) (now (indices .entry)) ⌝ }
+{
+    if vertices.len() % 3 != 0 {
+        return Validation::PartialVertex;
+    }
+    if indices.len() == 0 {
+        return Validation::Judged(Verdict::Empty);
+    }
+    match first_not_finite(vertices) {
+        Found::At(k) => Validation::Judged(Verdict::NonFiniteVertex(k)),
+        Found::Nowhere => Validation::Judged(triangles(limit, vertices, indices)),
+    }
+}
+
+pub fn validate(vertices: &[f32], indices: &[u32]) -> Validation
+    ensures { λ r. ⌜ r ≡ validate (now (vertices .entry)) (now (indices .entry)) ⌝ }
+{
+    validate_at(MIN_AREA, vertices, indices)
+}
+
+impl Judgement {
+    fn new(refusal: u32, verdict: u32, index: u32, place: u64, count: u64) -> Judgement
+        ensures { λ r. ⌜ r ≡ judgement refusal verdict index place count ⌝ }
+    {
+        Judgement {
+            refusal,
+            object: 0,
+            verdict,
+            index,
+            place,
+            count,
+        }
+    }
+}
+
+impl Verdict {
+    fn numbers(self) -> Judgement
+        ensures { λ r. ⌜ r ≡ verdictNumbers self ⌝ }
+    {
+        match self {
+            Verdict::Ok => Judgement::new(0, 0, 0, 0, 0),
+            Verdict::Empty => Judgement::new(0, 1, 0, 0, 0),
+            Verdict::NonFiniteVertex(i) => Judgement::new(0, 2, 0, i as u64, 0),
+            Verdict::IndexOutOfRange(t, i, n) => Judgement::new(0, 3, i, t as u64, n as u64),
+            Verdict::DegenerateTriangle(t) => Judgement::new(0, 4, 0, t as u64, 0),
+        }
+    }
+}
+
+impl Validation {
+    pub fn numbers(self) -> Judgement
+        ensures { λ r. ⌜ r ≡ validationNumbers self ⌝ }
+    {
+        match self {
+            Validation::Judged(v) => v.numbers(),
+            Validation::PartialVertex => Judgement::new(11, 0, 0, 0, 0),
+        }
+    }
+}
