@@ -1,0 +1,13 @@
+-- `lid::bridges::passes` meets its contract. Assumes nothing.
+use mathlib.Core.Path.{refl}
+use Prim.Native.Nat.{_-_}
+use Rattle.lid.specs.Bridges.{passes}
+use Rattle.lid.proofs.bridges.passes.Statement.{statement}
+use Rattle.lid.proofs.bridges.passes.Tie as tie
+
+returns : tie.Need-returns
+unfolding passes
+returns c = refl
+
+pub passes-spec : {M : Type 1} → statement M
+passes-spec = tie.close (tie.spec returns)

@@ -1,0 +1,30 @@
+-- `lid::holes::put_skip` meets its contract. Assumes nothing.
+use mathlib.Core.Path.{refl, sym}
+use Prim.Native.Nat.{_-_}
+use native.Mathlib.Nat.{add-zero}
+use borrow.Author.Needs.{needs}
+use Rattle.lid.specs.Holes.{skips}
+use Rattle.lid.specs.Log.{logNumbers}
+use Rattle.lists.specs.Loops.{join}
+use Rattle.lid.proofs.holes.put_skip.Statement.{statement}
+use Rattle.lid.proofs.holes.put_skip.Tie as tie
+
+put-entry-requires : tie.Need-put-entry-requires
+put-entry-requires c κs = search needs
+
+add-result : tie.Need-add-result
+add-result c = search needs
+
+same-length : tie.Need-same-length
+same-length c = search needs
+
+returns : tie.Need-returns
+unfolding skips
+returns c = rw (c .before .before .before .before .if1 .taken) (refl, c .before .before .put-entry .ensures)
+
+returns-2 : tie.Need-returns-2
+unfolding skips logNumbers join
+returns-2 c = rw (c .if1 .left) (sym (add-zero (c .before .before .args .n)), refl)
+
+pub put-skip-spec : {M : Type 1} → statement M
+put-skip-spec = tie.close (tie.spec put-entry-requires add-result same-length returns returns-2)

@@ -1,0 +1,25 @@
+-- `lid::notes::forget` meets its contract. Assumes nothing.
+use mathlib.Core.Path.{_∙_}
+use Prim.Native.Nat.{_-_}
+use borrow.Author.Needs.{needs}
+use Rattle.lid.proofs.NoteLaws.{forgot-moved}
+use Rattle.lid.proofs.notes.forget.Statement.{statement}
+use Rattle.lid.proofs.notes.forget.Tie as tie
+use denote.Ref.{now}
+
+forget-near-requires : tie.Need-forget-near-requires
+forget-near-requires c κs = search needs
+
+remove-requires : tie.Need-remove-requires
+remove-requires c κs = search needs
+
+same-length : tie.Need-same-length
+same-length c = search needs
+
+returns : tie.Need-returns
+returns c =
+    let a = c .before .before .before .before .before .before .before .before .before .before .args in
+    forgot-moved (now (a .ring)) (now (a .why)) (c .before .before .before .before .before .before .forget-near .last .1 .0) (c .before .before .remove .last .0) (a .at .0) (c .before .before .before .before .before .before .before .before .before .before .pre .0) (c .before .before .before .before .before .before .forget-near .kept .1 .0 ∙ c .before .before .before .before .before .before .before .before .before .before .pre .1) (c .before .before .before .before .before .before .forget-near .ensures) (c .before .before .remove .ensures)
+
+pub forget-spec : {M : Type 1} → statement M
+forget-spec = tie.close (tie.spec forget-near-requires remove-requires same-length returns)

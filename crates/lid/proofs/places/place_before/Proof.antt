@@ -1,0 +1,27 @@
+-- `lid::places::place_before` meets its contract. Assumes nothing.
+use mathlib.Core.Path.{_≡_, sym}
+use Prim.Native.Nat.{_-_}
+use native.Mathlib.Omega.{arith}
+use borrow.Author.Needs.{needs}
+use Rattle.lists.proofs.Places.{previous-inside, previous-first}
+use Rattle.lid.proofs.places.place_before.Statement.{statement}
+use Rattle.lid.proofs.places.place_before.Tie as tie
+
+sub-t5 : tie.Need-sub-t5
+sub-t5 c = search needs
+
+returns : tie.Need-returns
+returns c =
+    let a = c .before .args in
+    let e : a .at .0 ≡ 0 = c .if1 .taken in (rw e (sym (previous-first (a .n) (omega arith))), omega arith)
+
+sub-t6 : tie.Need-sub-t6
+sub-t6 c = search needs
+
+returns-2 : tie.Need-returns-2
+returns-2 c =
+    let a = c .before .args in
+    (sym (previous-inside (a .n) (a .at .0) (omega arith) (omega arith)), omega arith)
+
+pub place-before-spec : {M : Type 1} → statement M
+place-before-spec = tie.close (tie.spec sub-t5 returns sub-t6 returns-2)

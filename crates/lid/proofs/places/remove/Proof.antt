@@ -1,0 +1,75 @@
+-- `lid::places::remove` meets its contract. Assumes nothing.
+use mathlib.Core.Path.{_≡_, refl, sym, _∙_}
+use Prim.Native.Nat.{_<_, _-_}
+use native.Mathlib.Omega.{arith}
+use lib.ListN.{length, length-set}
+use Rattle.lid.proofs.ClipLaws.{remove-step, remove-last}
+use Rattle.lists.specs.Loops.{removeAt}
+use Rattle.lid.proofs.places.remove.Statement.{statement}
+use Rattle.lid.proofs.places.remove.Tie as tie
+use denote.Ref.{now}
+
+abbrev Inv-loop : tie.InvT-loop
+Inv-loop ring₀ j₀ last ring j = (length ring ≡ length ring₀) × (j < length ring₀) × (removeAt j ring ≡ removeAt j₀ ring₀)
+
+abbrev μ-loop : tie.MeasureT-loop
+μ-loop ring₀ j₀ last ring j = length ring₀ - j
+
+sub-last : tie.Need-sub-last Inv-loop μ-loop
+sub-last c = omega arith
+
+loop-holds : tie.Need-loop-holds Inv-loop μ-loop
+loop-holds c = (refl, omega arith, refl)
+
+add-ring : tie.Need-add-ring Inv-loop μ-loop
+add-ring c = omega arith
+
+mul-ring : tie.Need-mul-ring Inv-loop μ-loop
+mul-ring c = omega arith
+
+slice-read-ring : tie.Need-slice-read-ring Inv-loop μ-loop
+slice-read-ring c = omega arith
+
+mul-ring-2 : tie.Need-mul-ring-2 Inv-loop μ-loop
+mul-ring-2 c = omega arith
+
+slice-write-ring : tie.Need-slice-write-ring Inv-loop μ-loop
+slice-write-ring c = omega arith
+
+add-j : tie.Need-add-j Inv-loop μ-loop
+add-j c = omega arith
+
+loop-less : tie.Need-loop-less Inv-loop μ-loop
+loop-less c = omega arith
+
+loop-again : tie.Need-loop-again Inv-loop μ-loop
+loop-again c =
+    let l = c .before .before .loop in
+    (simp length-set (c .before .before .loop .inv .0), omega arith, remove-step (l .ring) (l .j) (omega arith) ∙ c .before .before .loop .inv .2)
+
+same-length : tie.Need-same-length Inv-loop μ-loop
+same-length c = c .before .loop .inv .0
+
+returns : tie.Need-returns Inv-loop μ-loop
+returns c =
+    let l = c .before .loop in
+    let e : l .j ≡ length (now (c .before .before .args .ring)) - 1 = omega arith in rw (← e) (sym (remove-last (l .ring) (l .j) (omega arith)) ∙ c .before .loop .inv .2)
+
+pub remove-spec : {M : Type 1} → statement M
+remove-spec =
+    tie.close
+    (tie.spec
+    Inv-loop
+    μ-loop
+    sub-last
+    loop-holds
+    add-ring
+    mul-ring
+    slice-read-ring
+    mul-ring-2
+    slice-write-ring
+    add-j
+    loop-less
+    loop-again
+    same-length
+    returns)

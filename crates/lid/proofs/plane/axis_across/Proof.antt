@@ -1,0 +1,17 @@
+-- `lid::plane::axis_across` meets its contract. Assumes nothing.
+use Prim.Native.Nat.{_-_}
+use borrow.Author.Needs.{needs}
+use Rattle.lid.proofs.plane.axis_across.Statement.{statement}
+use Rattle.lid.proofs.plane.axis_across.Tie as tie
+
+abs-requires : tie.Need-abs-requires
+abs-requires c κs = search needs
+
+returns : tie.Need-returns
+returns c = rw (← c .before .abs .ensures, c .if1 .taken)
+
+returns-2 : tie.Need-returns-2
+returns-2 c = rw (← c .before .abs .ensures, c .if1 .left)
+
+pub axis-across-spec : {M : Type 1} → statement M
+axis-across-spec = tie.close (tie.spec abs-requires returns returns-2)

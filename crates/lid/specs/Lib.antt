@@ -1,0 +1,11 @@
+pub mod Plane
+pub mod Log
+pub mod Rings
+pub mod Bridges
+pub mod Clipping
+pub mod Lid
+pub mod Written
+pub mod Steps
+pub mod Holes
+pub mod Notes
+pub mod Areas

@@ -1,0 +1,34 @@
+-- What the code that cuts a lid writes into the buffers that it is lent, and the count that its limits speak of. Definitions only.
+use Prim.Native.Nat.{ℕ, _+_, _*_}
+use mathlib.Core.Path.{_≡_}
+use mathlib.Core.List.{List, [], _∷_}
+use lib.ListN.{length}
+use lib.Seq.{sets}
+use Rattle.lists.specs.Loops.{join, sumOf}
+use Rattle.face.specs.Faces.{Triangle}
+use Rattle.lid.specs.declared.Drawing.{Drawing}
+use Rattle.lid.specs.Log.{Entry, logNumbers}
+
+-- how many corners an outline has, by its counts
+abbrev pub cornerTotal : ℕ → List ℕ → ℕ
+cornerTotal outer counts = outer + sumOf (λ n. n) counts
+
+-- the log with entries written from entry n on, and a buffer of triangles; stores past the end are left out
+abbrev pub logWith : List ℕ → ℕ → List Entry → List ℕ
+logWith log n es = sets log (4 * n) (logNumbers es)
+
+abbrev pub triangleRecord : Triangle → List ℕ
+triangleRecord t = t .a ∷ t .b ∷ t .c ∷ []
+
+unfoldable pub triangleNumbers : List Triangle → List ℕ
+triangleNumbers ts = join triangleRecord ts
+
+abbrev pub trianglesWith : List ℕ → ℕ → List Triangle → List ℕ
+trianglesWith s n ts = sets s (3 * n) (triangleNumbers ts)
+
+-- entries stand in the log from entry n on, and triangles in their buffer from the first; their numbers
+pub record Draws (es : List Entry) (ts : List Triangle) (log log′ : List ℕ) (n : ℕ) (triangles triangles′ : List ℕ) (r : Drawing) : Type 0 where
+  pub written : log′ ≡ logWith log n es
+  pub entries : r .entries ≡ n + length es
+  pub drawn : triangles′ ≡ trianglesWith triangles 0 ts
+  pub offered : r .triangles ≡ length ts
