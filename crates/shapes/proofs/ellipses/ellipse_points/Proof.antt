@@ -1,0 +1,58 @@
+-- `shapes::ellipses::ellipse_points` meets its contract: the first k points of the ring are set. Assumes nothing.
+use mathlib.Core.Path.{_≡_, refl, sym, _∙_}
+use Prim.Native.Nat.{_-_, _≤_}
+use native.Mathlib.Omega.{arith}
+use lib.ListN.{length, take}
+use lib.Seq.{take-all}
+use borrow.Author.Needs.{needs}
+use Rattle.lists.specs.Loops.{list}
+use Rattle.shapes.specs.Shapes.{ellipsePoint}
+use Rattle.shapes.proofs.RingFaces.{filled-next}
+use Rattle.shapes.proofs.ellipses.ellipse_points.Statement.{statement}
+use Rattle.shapes.proofs.ellipses.ellipse_points.Tie as tie
+
+abbrev Inv-loop : tie.InvT-loop
+Inv-loop centre across up ring₀ k₀ ring k = (k ≤ 16) × (length ring ≡ 16) × (take k ring ≡ list (ellipsePoint centre across up) k 0)
+
+abbrev μ-loop : tie.MeasureT-loop
+μ-loop centre across up ring₀ k₀ ring k = 16 - k
+
+loop-holds : tie.Need-loop-holds Inv-loop μ-loop
+unfolding list
+loop-holds c = (omega arith, refl, refl)
+
+ellipse-point-requires : tie.Need-ellipse-point-requires Inv-loop μ-loop
+ellipse-point-requires c κs = search needs
+
+mul-ring : tie.Need-mul-ring Inv-loop μ-loop
+mul-ring c = search needs
+
+array-set-from-ring : tie.Need-array-set-from-ring Inv-loop μ-loop
+array-set-from-ring c = search needs
+
+add-k : tie.Need-add-k Inv-loop μ-loop
+add-k c = search needs
+
+loop-less : tie.Need-loop-less Inv-loop μ-loop
+loop-less c = search needs
+
+loop-again : tie.Need-loop-again Inv-loop μ-loop
+loop-again c = let a = c .before .before .before .args in let l = c .before .before .loop in let h = l .inv .1 in (omega arith, search needs, filled-next (ellipsePoint (a .centre) (a .across) (a .up)) (l .ring) (l .k) _ (omega arith) (l .inv .2) (c .ellipse-point .ensures))
+
+returns : tie.Need-returns Inv-loop μ-loop
+returns c = let l = c .before .loop in let e : l .k ≡ 16 = omega arith in sym (take-all 16 (l .ring) (omega (arith, l .inv .1))) ∙ (rw e at (l .inv .2))
+
+pub ellipse-points-spec : {M : Type 1} → statement M
+ellipse-points-spec =
+    tie.close
+    (tie.spec
+    Inv-loop
+    μ-loop
+    loop-holds
+    ellipse-point-requires
+    mul-ring
+    array-set-from-ring
+    add-k
+    loop-less
+    loop-again
+    returns)

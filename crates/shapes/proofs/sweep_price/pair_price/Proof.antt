@@ -1,0 +1,45 @@
+-- `shapes::sweep_price::pair_price` meets its contract. Assumes nothing.
+use mathlib.Core.Path.{sym, ap₂, _∙_}
+use mathlib.Core.Bool.{_&&_}
+use Prim.Native.Nat.{_-_}
+use native.Mathlib.Omega.{arith}
+use borrow.Author.Needs.{needs}
+use Rattle.shapes.specs.Price.{pairPrice}
+use Rattle.shapes.proofs.sweep_price.pair_price.Statement.{statement}
+use Rattle.shapes.proofs.sweep_price.pair_price.Tie as tie
+
+is-thin-requires : tie.Need-is-thin-requires
+is-thin-requires c κs = search needs
+
+is-thin-requires-2 : tie.Need-is-thin-requires-2
+is-thin-requires-2 c κs = search needs
+
+returns : tie.Need-returns
+unfolding pairPrice
+returns c = let e = sym (ap₂ _&&_ (c .before .before .is-thin .ensures) (c .before .is-thin2 .ensures)) ∙ c .if1 .taken in (rw e, omega arith)
+
+is-flat-requires : tie.Need-is-flat-requires
+is-flat-requires c κs = search needs
+
+is-flat-requires-2 : tie.Need-is-flat-requires-2
+is-flat-requires-2 c κs = search needs
+
+returns-2 : tie.Need-returns-2
+unfolding pairPrice
+returns-2 c = let e = sym (ap₂ _&&_ (c .before .before .before .before .before .is-thin .ensures) (c .before .before .before .before .is-thin2 .ensures)) ∙ c .before .before .before .if1 .left in let f = sym (ap₂ _&&_ (c .before .before .is-flat .ensures) (c .before .is-flat2 .ensures)) ∙ c .if2 .taken in (rw (e, f), omega arith)
+
+returns-3 : tie.Need-returns-3
+unfolding pairPrice
+returns-3 c = let e = sym (ap₂ _&&_ (c .before .before .before .before .before .is-thin .ensures) (c .before .before .before .before .is-thin2 .ensures)) ∙ c .before .before .before .if1 .left in let f = sym (ap₂ _&&_ (c .before .before .is-flat .ensures) (c .before .is-flat2 .ensures)) ∙ c .if2 .left in (rw (e, f), omega arith)
+
+pub pair-price-spec : {M : Type 1} → statement M
+pair-price-spec =
+    tie.close
+    (tie.spec
+    is-thin-requires
+    is-thin-requires-2
+    returns
+    is-flat-requires
+    is-flat-requires-2
+    returns-2
+    returns-3)

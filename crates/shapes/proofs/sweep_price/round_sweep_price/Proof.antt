@@ -1,0 +1,37 @@
+-- `shapes::sweep_price::round_sweep_price` meets its contract. Assumes nothing.
+use mathlib.Core.Path.{_∙_}
+use Prim.Native.Nat.{_-_}
+use native.Mathlib.Omega.{arith}
+use borrow.Author.Needs.{needs}
+use Rattle.shapes.proofs.SweepPrices.{round-price-none, round-price-is}
+use Rattle.shapes.proofs.sweep_price.round_sweep_price.Statement.{statement}
+use Rattle.shapes.proofs.sweep_price.round_sweep_price.Tie as tie
+
+returns : tie.Need-returns
+returns c = λ ss h. round-price-none ss (h ∙ c .if1 .taken)
+
+sub-result : tie.Need-sub-result
+sub-result c = search needs
+
+cast-result : tie.Need-cast-result
+cast-result c = search needs
+
+mul-result : tie.Need-mul-result
+mul-result c = search needs
+
+add-result : tie.Need-add-result
+add-result c = search needs
+
+returns-2 : tie.Need-returns-2
+returns-2 c = λ ss h. round-price-is ss (c .before .args .n) h (omega arith)
+
+pub round-sweep-price-spec : {M : Type 1} → statement M
+round-sweep-price-spec =
+    tie.close
+    (tie.spec
+    returns
+    sub-result
+    cast-result
+    mul-result
+    add-result
+    returns-2)

@@ -1,0 +1,34 @@
+-- `shapes::sweeps::top` meets its contract. Assumes nothing.
+use Prim.Native.Nat.{_-_}
+use borrow.Author.Needs.{needs}
+use Rattle.shapes.proofs.sweeps.top.Statement.{statement}
+use Rattle.shapes.proofs.sweeps.top.Tie as tie
+
+new-requires : tie.Need-new-requires
+new-requires c κs = search needs
+
+quad-requires : tie.Need-quad-requires
+quad-requires c κs = search needs
+
+same-length : tie.Need-same-length
+same-length c = search needs
+
+same-length-2 : tie.Need-same-length-2
+same-length-2 c = search needs
+
+same-length-3 : tie.Need-same-length-3
+same-length-3 c = search needs
+
+returns : tie.Need-returns
+returns c = rw (← c .before .before .before .before .before .before .before .before .before .before .new .ensures) (c .before .before .before .before .before .before .quad .ensures 1)
+
+pub top-spec : {M : Type 1} → statement M
+top-spec =
+    tie.close
+    (tie.spec
+    new-requires
+    quad-requires
+    same-length
+    same-length-2
+    same-length-3
+    returns)

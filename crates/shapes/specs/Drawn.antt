@@ -1,0 +1,29 @@
+-- What drawing one object comes to, from its record's place in the scene's bytes: the contract of `draw`. Definitions only.
+use mathlib.Core.Path.{_≡_}
+use Prim.Native.Nat.{ℕ, _+_, _≤_}
+use mathlib.Core.List.{List}
+use lib.ListN.{length}
+use lib.Seq.{sets}
+use lib.Ieee.{Float}
+use Rattle.object.specs.Object.{Shape}
+use Rattle.scene.specs.declared.headers.Body.{Body}
+use Rattle.scene.specs.Headers.{bodySize, Limits}
+use Rattle.face.specs.Drawing.{tally, drawing, Drew}
+use Rattle.lid.specs.Log.{logNumbers}
+use Rattle.shapes.specs.declared.draw.Drawn.{Drawn}
+use Rattle.shapes.specs.Shapes.{facesOf, logOf}
+use Rattle.shapes.specs.Price.{offered}
+
+-- The body at place i, behind its record's kind and id, is one of an accepted scene, and no more vertices lie before it than such a scene has.
+pub record CanDraw (s : List ℕ) (i : ℕ) (body : Body) (before : ℕ) : Type 0 where
+  pub limits : Limits s i body
+  pub inside : i + bodySize s i body ≤ length s
+  pub short : length s ≤ 16777216
+  pub few : before ≤ 33554432
+
+-- The shape drawn from the start of the lent buffers, its log written from the start of the lent log. A store past a buffer's end is left out.
+pub record DrewObject (limit : Float) (sh : Shape) (before : ℕ) (vs ns : List Float) (is ls : List ℕ) (r : Drawn) (vs′ ns′ : List Float) (is′ ls′ : List ℕ) : Type 0 where
+  pub drew : Drew limit (facesOf sh) before (drawing (tally 0 0 0) vs ns is) (drawing (r .tally) vs′ ns′ is′)
+  pub offered : r .offered ≡ offered sh
+  pub entries : r .entries ≡ length (logOf sh)
+  pub log : ls′ ≡ sets ls 0 (logNumbers (logOf sh))

@@ -1,0 +1,25 @@
+-- Names for the parts of a solid that one function of the program draws. Definitions only.
+use mathlib.Core.Bool.{cond}
+use mathlib.Core.List.{List, [], _∷_}
+use lib.Ieee.{Float, lt}
+use Rattle.float.specs.Number.{zerof, onef}
+use Rattle.coords.specs.declared.Point.{Point}
+use Rattle.coords.specs.Coords.{negate}
+use Rattle.object.specs.declared.Orientation.{Orientation}
+use Rattle.object.specs.Object.{frame}
+use Rattle.face.specs.Faces.{Face}
+use Rattle.shapes.specs.declared.solids.Axis.{Axis as ProgramAxis}
+use Rattle.shapes.specs.declared.solids.Axis.the-variants.{X, Y, Z}
+use Rattle.shapes.specs.Shapes.{Axis, alongX, alongY, alongZ, endFace}
+
+-- the axis that the program's enum names
+unfoldable pub axisOf : ProgramAxis → Axis
+axisOf X = alongX
+axisOf Y = alongY
+axisOf Z = alongZ
+
+-- the faces of `cylinderFaces` behind the sides: the top and, above height 0, the bottom
+abbrev pub cylinderEnds : Orientation → List Point → List Point → Float → List Face
+cylinderEnds t bottom top h =
+    let up = frame t zerof zerof onef in
+    endFace top up 2 ∷ cond (lt zerof h) (endFace bottom (negate up) 3 ∷ []) []
