@@ -1,0 +1,4 @@
+pub mod Computes
+pub mod Demand3
+pub mod Vertices
+pub mod Lending

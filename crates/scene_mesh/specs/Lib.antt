@@ -1,0 +1,4 @@
+pub mod Mesh
+pub mod Operations
+pub mod Demand3
+pub mod Samples

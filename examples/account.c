@@ -1,0 +1,47 @@
+/* Prints the account of a scene: a line for each object with the triangles offered, kept and too
+ * thin to draw, and the verdict on the mesh. */
+#include <stdio.h>
+#include <stdlib.h>
+
+#include "object_mesh.h"
+
+static uint8_t scene[16777217];
+
+/* Room for n numbers of four bytes; the library wants no null pointer. */
+static void *room(uint32_t n) {
+    void *p = malloc(4 * (size_t)n + 4);
+    if (p == NULL) {
+        fputs("no memory\n", stderr);
+        exit(1);
+    }
+    return p;
+}
+
+int main(int argc, char **argv) {
+    FILE *file = argc == 2 ? fopen(argv[1], "rb") : NULL;
+    if (file == NULL) {
+        fputs("usage: account SCENE\n", stderr);
+        return 1;
+    }
+    size_t length = fread(scene, 1, sizeof scene, file);
+    fclose(file);
+
+    Answer need = object_mesh_measure(scene, length);
+    if (need.refusal != 0) {
+        printf("refused %u, object %u\n", need.refusal, need.object);
+        return 1;
+    }
+    float *vertices = room(need.vertices), *normals = room(need.normals);
+    uint32_t *indices = room(need.indices), *spans = room(need.spans);
+    uint32_t *account = room(need.account), *log = room(need.log);
+    object_mesh_build(scene, length, vertices, need.vertices, normals, need.normals, indices,
+                      need.indices, spans, need.spans, account, need.account, log, need.log);
+
+    for (uint32_t k = 0; k < need.account; k += 4) {
+        printf("object %u: offered %u, kept %u, thin %u\n", k / 4, account[k], account[k + 1],
+               account[k + 2]);
+    }
+    Judgement judgement = object_mesh_validate(vertices, need.vertices, indices, need.indices);
+    printf("%u triangles, verdict %u\n", need.indices / 3, judgement.verdict);
+    return 0;
+}
