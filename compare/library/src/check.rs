@@ -3,7 +3,7 @@
 
 use reference::{build, read_scene, validate, Built};
 
-use crate::calls::{self, Answer, Buffers};
+use library::calls::{self, Answer, Buffers};
 
 /// Whether the scene is accepted; an error tells the first difference.
 pub fn scene(bytes: &[u8], turn: u64) -> Result<bool, String> {

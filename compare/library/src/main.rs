@@ -1,7 +1,7 @@
 //! Compares the linked library with the original on generated scenes, in one process.
 
-mod calls;
 mod check;
+mod lengths;
 
 use std::process::ExitCode;
 
@@ -21,21 +21,35 @@ fn main() -> ExitCode {
         return ExitCode::FAILURE;
     };
     let (mut scenes, mut refused) = (0u64, 0u64);
+    let mut compare = |name: String, scene: &[u8], turn: u64| {
+        let accepted = check::scene(scene, turn).map_err(|message| format!("{name}: {message}"))?;
+        scenes += 1;
+        refused += u64::from(!accepted);
+        Ok(())
+    };
+    if let Err(message) = all(seed, count, &mut compare) {
+        eprintln!("{message}");
+        return ExitCode::FAILURE;
+    }
+    println!("{scenes} scenes, {refused} of them refused, no difference");
+    ExitCode::SUCCESS
+}
+
+type Compare<'a> = &'a mut dyn FnMut(String, &[u8], u64) -> Result<(), String>;
+
+fn all(seed: u64, count: u64, compare: Compare) -> Result<(), String> {
+    for (turn, length) in (0..).zip(lengths::LENGTHS) {
+        for scene in lengths::scenes(length) {
+            compare(format!("{length} bytes"), &scene, turn)?;
+        }
+    }
     for family in names() {
         // A scene of this family takes the original many milliseconds.
         let count = if family == "slow" { count.div_ceil(100) } else { count };
         for k in 0..count {
-            let scene = generate(family, seed.wrapping_add(k));
-            match check::scene(&scene, k) {
-                Ok(accepted) => refused += u64::from(!accepted),
-                Err(message) => {
-                    eprintln!("{family} seed {}: {message}", seed.wrapping_add(k));
-                    return ExitCode::FAILURE;
-                }
-            }
-            scenes += 1;
+            let seed = seed.wrapping_add(k);
+            compare(format!("{family} seed {seed}"), &generate(family, seed), k)?;
         }
     }
-    println!("{scenes} scenes, {refused} of them refused, no difference");
-    ExitCode::SUCCESS
+    Ok(())
 }

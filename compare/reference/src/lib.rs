@@ -10,6 +10,7 @@ pub mod demand;
 pub mod exact;
 pub mod families;
 pub mod fnv;
+pub mod long;
 pub mod network;
 pub mod pair;
 pub mod price;

@@ -28,3 +28,9 @@ impl RoadNetwork {
         &self.objects
     }
 }
+
+impl From<Vec<Object>> for RoadNetwork {
+    fn from(objects: Vec<Object>) -> Self {
+        Self { objects }
+    }
+}

@@ -2,15 +2,15 @@
 //! (no function of the platform is used).
 
 mod damaged;
-mod holes;
+pub mod holes;
 mod lists;
 mod numbers;
 mod outlines;
-mod plan;
+pub mod plan;
 mod refused;
-mod rings;
+pub mod rings;
 mod solids;
-mod stand;
+pub mod stand;
 mod sweeps;
 
 use crate::fnv;

@@ -1,0 +1,88 @@
+//! From scene bytes to a mesh.
+
+use std::time::Duration;
+
+use library::calls::{self, Answer, Buffers};
+use reference::network::RoadNetwork;
+use reference::{build, read_scene};
+
+use crate::scenes::{families, Family};
+use crate::timing::{ms, ratio, shortest, swept, timed};
+
+struct Line {
+    name: String,
+    scene: Vec<u8>,
+    triangles: usize,
+}
+
+pub fn table(only: &str) {
+    println!("| scene | bytes | triangles | Rust ms | Measure ms | Build ms | Measure, allocate, Build ms | Measure / Rust | Build / Rust | all three / Rust |");
+    println!("|---|--:|--:|--:|--:|--:|--:|--:|--:|--:|");
+    let chosen = families()
+        .into_iter()
+        .filter(|family| family.name.contains(only));
+    let lines: Vec<Line> = chosen.map(line).collect();
+    for (line, times) in lines.iter().zip(swept(&lines, |line| time(&line.scene))) {
+        println!("{}", text(line, times));
+    }
+    println!();
+}
+
+fn line(family: Family) -> Line {
+    let scene = (family.make)();
+    let triangles = compare(&scene);
+    Line {
+        name: family.name,
+        scene,
+        triangles,
+    }
+}
+
+fn time(scene: &[u8]) -> [Duration; 4] {
+    let mut sized = buffers(&calls::measure(scene));
+    shortest([
+        &mut || timed(|| original(scene)),
+        &mut || timed(|| calls::measure(scene)),
+        &mut || timed(|| calls::build(scene, &mut sized)),
+        &mut || timed(|| library(scene)),
+    ])
+}
+
+fn text(line: &Line, times: [Duration; 4]) -> String {
+    let [rust, measure, build, all] = times;
+    let ratios = [measure, build, all].map(|t| ratio(t, rust)).join(" | ");
+    let times = times.map(ms).join(" | ");
+    let (name, bytes, triangles) = (&line.name, line.scene.len(), line.triangles);
+    format!("| {name} | {bytes} | {triangles} | {times} | {ratios} |")
+}
+
+/// What the Rust's user does: the objects read, their mesh made; no account and no log.
+pub fn original(scene: &[u8]) -> impl Sized {
+    let network = RoadNetwork::from(read_scene(scene).expect("the scene is accepted"));
+    let mesh = network.object_mesh_plain();
+    (network, mesh)
+}
+
+pub fn library(scene: &[u8]) -> Buffers {
+    let mut lent = buffers(&calls::measure(scene));
+    calls::build(scene, &mut lent);
+    lent
+}
+
+fn buffers(measured: &Answer) -> Buffers {
+    let zeros = |k: usize| vec![0; measured.counts[k] as usize];
+    Buffers {
+        floats: [zeros(0), zeros(1)],
+        numbers: [zeros(2), zeros(3), zeros(4), zeros(5)],
+    }
+}
+
+/// Both give the same six buffers; how many triangles they have.
+fn compare(scene: &[u8]) -> usize {
+    let objects = read_scene(scene).expect("the scene is accepted");
+    let expected = reference::answer::words(&build(&objects));
+    let Buffers { floats, numbers } = library(scene);
+    let got: Vec<Vec<u32>> = floats.into_iter().chain(numbers).collect();
+    assert!(got == expected, "the library differs from the original");
+    expected[2].len() / 3
+}

@@ -1,0 +1,3 @@
+//! The linked library, for programs that compare it with the original.
+
+pub mod calls;
