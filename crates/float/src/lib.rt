@@ -1,6 +1,5 @@
 // The correctly rounded square root of an f32 and the narrowing of an f64 to an f32, for every
 // value: IEEE 754, to nearest, ties to even.
-
 ghost use mathlib.Core.Path.{_≡_};
 ghost use mathlib.Core.Bool.{Bool, cond, true, false};
 ghost use Prim.Native.Nat.{ℕ, suc, _+_, _-_, _*_, _^_, _/_, _%_, _≤_, _<_};
@@ -155,8 +154,23 @@ fn round_off(w: u64, d: u32) -> u64
     half / 2 + 1
 }
 
-// The bit pattern, without its sign, of the f32 nearest to the f64 whose pattern is b.
+// The bit pattern, without its sign, of the f32 nearest to the f64 whose pattern is b. Where the
+// f32 is normal, the f64's pattern is rounded as a whole number, once the exponents' difference is
+// taken off: a carry goes into the exponent.
 fn narrow_bits(b: u64) -> u32
+    requires { ⌜ b % 0x8000_0000_0000_0000 ≤ 0x7ff0_0000_0000_0000 ⌝ }
+    ensures { λ r. ⌜ (ofBits binary32 (cond (leb 0x8000_0000_0000_0000 b) 0x8000_0000 0 + r) ≡ convert binary32 (ofBits binary64 b)) × (r ≤ 0x7f80_0000) ⌝ }
+{
+    let m = b % 0x8000_0000_0000_0000;
+    if (0x3810_0000_0000_0000 <= m) & (m < 0x47f0_0000_0000_0000) {
+        let w = m - 0x3800_0000_0000_0000;
+        return ((w + 0xfff_ffff + w / 0x2000_0000 % 2) / 0x2000_0000) as u32;
+    }
+    other_bits(b)
+}
+
+// The same for any number, by cases.
+fn other_bits(b: u64) -> u32
     requires { ⌜ b % 0x8000_0000_0000_0000 ≤ 0x7ff0_0000_0000_0000 ⌝ }
     ensures { λ r. ⌜ (ofBits binary32 (cond (leb 0x8000_0000_0000_0000 b) 0x8000_0000 0 + r) ≡ convert binary32 (ofBits binary64 b)) × (r ≤ 0x7f80_0000) ⌝ }
 {
@@ -202,11 +216,8 @@ pub fn narrow(x: f64) -> f32
         return 0.0 / 0.0;
     }
     let b = f64::to_bits(x);
-    let p = narrow_bits(b);
-    if b < 0x8000_0000_0000_0000 {
-        return f32::from_bits(p);
-    }
-    f32::from_bits(0x8000_0000 + p)
+    let sign = (b / 0x8000_0000_0000_0000 * 0x8000_0000) as u32;
+    f32::from_bits(sign + narrow_bits(b))
 }
 
 // x without its sign.
