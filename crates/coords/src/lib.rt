@@ -72,13 +72,13 @@ impl Vector {
         Vector { x, y, z }
     }
 
-    pub fn add(self, v: Vector) -> Vector
-        ensures { λ r. ⌜ r ≡ plus self v ⌝ }
+    pub fn add(self, other: Vector) -> Vector
+        ensures { λ r. ⌜ r ≡ plus self other ⌝ }
     {
         Vector {
-            x: self.x + v.x,
-            y: self.y + v.y,
-            z: self.z + v.z,
+            x: self.x + other.x,
+            y: self.y + other.y,
+            z: self.z + other.z,
         }
     }
 

@@ -8,8 +8,8 @@ use lib.ListN.{length, length-append, length-replicate}
 use lib.Seq.{sets, length-sets}
 use lib.Ieee.{Float}
 use Rattle.lists.specs.Loops.{join, sumOf}
-use Rattle.lists.proofs.Lists.{sum-append, join-append, join-size}
-use Rattle.lists.proofs.Stores.{sets-append}
+use Rattle.lists.proofs.Lists.{sum-append}
+use Rattle.lists.proofs.Stores.{sets-append, records-behind}
 use Rattle.coords.specs.declared.Point.{Point}
 use Rattle.coords.specs.declared.Vector.{Vector}
 use Rattle.coords.specs.Buffers.{vertexRecord, vertexNumbers, normalRecord, normalNumbers}
@@ -29,14 +29,6 @@ same-piece : {vs vs′ : List Point} {ns ns′ : List Vector} {is is′ : List �
     → _≡_ {A = Piece} (record { vertices = vs; normals = ns; indices = is }) (record { vertices = vs′; normals = ns′; indices = is′ })
 same-piece a b c = cc
 
--- records of three numbers stored behind others
-stored-more : {A B : Type 0} (write : A → List B) → ((a : A) → length (write a) ≡ 3) → (l : List B) (n : ℕ) (xs ys : List A)
-    → sets (sets l (3 * n) (join write xs)) (3 * (n + length xs)) (join write ys) ≡ sets l (3 * n) (join write (xs ++ ys))
-stored-more write w l n xs ys =
-    ap (λ (i : ℕ). sets (sets l (3 * n) (join write xs)) i (join write ys)) (let h = join-size write 3 w xs in omega arith)
-    ∙ sets-append l (3 * n) (join write xs) (join write ys)
-    ∙ ap (sets l (3 * n)) (sym (join-append write xs ys))
-
 -- a piece put behind what stands in the buffers, with k triangles kept and h thin
 unfoldable pub put : Piece → ℕ → ℕ → Drawing → Drawing
 put p k h d =
@@ -51,8 +43,8 @@ put-more p q k h k′ h′ d e g =
     let t = d .tally in
     same-drawing
     (same-tally (let l = length-append (p .vertices) (q .vertices) in omega arith) (add-assoc (t .kept) k k′) (add-assoc (t .thin) h h′))
-    (stored-more vertexRecord (λ a. refl) (d .vertices) (t .vertices) (p .vertices) (q .vertices))
-    (rw (← e) (stored-more normalRecord (λ a. refl) (d .normals) (t .vertices) (p .normals) (q .normals)))
+    (records-behind vertexRecord 3 (λ a. refl) (d .vertices) (t .vertices) (p .vertices) (q .vertices))
+    (rw (← e) (records-behind normalRecord 3 (λ a. refl) (d .normals) (t .vertices) (p .normals) (q .normals)))
     (ap (λ (i : ℕ). sets (sets (d .indices) (3 * t .kept) (p .indices)) i (q .indices)) (omega arith) ∙ sets-append (d .indices) (3 * t .kept) (p .indices) (q .indices))
 
 behind-assoc : (p q r : Piece) → behind p (behind q r) ≡ behind (behind p q) r

@@ -6,6 +6,7 @@ ghost use lib.ListN.{length, replicate};
 ghost use lib.Seq.{sets};
 ghost use Rattle.lists.specs.Each.{Each};
 ghost use Rattle.coords.specs.Buffers.{vertexNumbers, normalNumbers, verticesIn};
+ghost use Rattle.coords.specs.Coords.{unitZ, normalizeOr};
 ghost use Rattle.face.specs.Faces.{triangle, TriangleLow, quad};
 ghost use Rattle.face.specs.Offered.{triangleAt, trianglesIn, sideOf, sideIn, cornersOf, gathered, offered, offerOne, offerAll};
 ghost use Rattle.face.specs.Drawing.{drawing, faceIn, Drew, Room};
@@ -163,6 +164,19 @@ fn put_vertices(points: &[f32], normal: Vector, at: u32, vs: &mut [f32], ns: &mu
     }
 }
 
+// All points, each with the normal of the sum, from place at on. Without any room, as where a scene is
+// measured, no normal is worked out.
+fn put_points(points: &[f32], sum: Vector, at: u32, vs: &mut [f32], ns: &mut [f32])
+    requires { ⌜ at + length (now points) / 3 < 2 ^ 32 ⌝ }
+    ensures { λ _. ⌜ (now (vs .exit) ≡ sets (now (vs .entry)) (3 * at) (vertexNumbers (verticesIn (now (points .entry))))) × (now (ns .exit) ≡ sets (now (ns .entry)) (3 * at) (normalNumbers (replicate (length (verticesIn (now (points .entry)))) (normalizeOr sum unitZ)))) ⌝ }
+{
+    if (vs.len() == 0) & (ns.len() == 0) {
+        return;
+    }
+    let normal = sum.normalize_or(Vector::new(0.0, 0.0, 1.0));
+    put_vertices(points, normal, at, vs, ns);
+}
+
 // A face of points and triangles lent as numbers, three to one, drawn where the tally says: its kept
 // triangles with all its points, or nothing. `before` is the number of vertices that lie before the
 // buffers.
@@ -191,8 +205,7 @@ pub fn face(
         };
     }
     let sum = s.normal;
-    let normal = sum.normalize_or(Vector::new(0.0, 0.0, 1.0));
-    put_vertices(points, normal, t.vertices, vs, ns);
+    put_points(points, sum, t.vertices, vs, ns);
     Tally {
         vertices: t.vertices + (points.len() / 3) as u32,
         kept: t.kept + s.kept,

@@ -4,16 +4,3 @@ pub mod Areas
 pub mod Facts
 pub mod Planes
 pub mod Flats
-pub mod PlaceLaws
-pub mod RingLaws
-pub mod RecordLaws
-pub mod ClipLaws
-pub mod SpliceLaws
-pub mod ClipRun
-pub mod HoleLaws
-pub mod JoinLaws
-pub mod LidLaws
-pub mod OrderLaws
-pub mod PlaneLaws
-pub mod NoteLaws
-pub mod Limits

@@ -6,6 +6,4 @@ pub mod Clipping
 pub mod Lid
 pub mod Written
 pub mod Steps
-pub mod Holes
-pub mod Notes
 pub mod Areas

@@ -6,7 +6,7 @@ use lib.ListN.{length}
 use lib.Seq.{sets}
 use Rattle.lists.specs.Loops.{join, sumOf}
 use Rattle.face.specs.Faces.{Triangle}
-use Rattle.lid.specs.declared.Drawing.{Drawing}
+use Rattle.lid.specs.declared.LidCounts.{LidCounts}
 use Rattle.lid.specs.Log.{Entry, logNumbers}
 
 -- how many corners an outline has, by its counts
@@ -27,7 +27,7 @@ abbrev pub trianglesWith : List ℕ → ℕ → List Triangle → List ℕ
 trianglesWith s n ts = sets s (3 * n) (triangleNumbers ts)
 
 -- entries stand in the log from entry n on, and triangles in their buffer from the first; their numbers
-pub record Draws (es : List Entry) (ts : List Triangle) (log log′ : List ℕ) (n : ℕ) (triangles triangles′ : List ℕ) (r : Drawing) : Type 0 where
+pub record WritesLid (es : List Entry) (ts : List Triangle) (log log′ : List ℕ) (n : ℕ) (triangles triangles′ : List ℕ) (r : LidCounts) : Type 0 where
   pub written : log′ ≡ logWith log n es
   pub entries : r .entries ≡ n + length es
   pub drawn : triangles′ ≡ trianglesWith triangles 0 ts

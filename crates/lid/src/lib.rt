@@ -1,16 +1,5 @@
-// The lid of a closed outline, as `lid_normal`, `triangulate` and `bridge` of object_mesh.rs.
-
-mod bridges;
-mod clipping;
-mod holes;
-mod joining;
-pub mod lids;
-mod notes;
-mod places;
-pub mod plane;
-mod records;
-mod rings;
-mod splicing;
+// The lid of a closed outline, as `lid_normal`, `triangulate` and `bridge` of object_mesh.rs: its
+// definitions (specs/), what is known of them, and the types that the crates above share.
 
 // A ring of less area is skipped, a corner of less turn is straight, and a rise of less does not tell a side.
 pub const MIN_AREA: f32 = 1e-6;
@@ -74,7 +63,7 @@ pub struct Clipped {
 }
 
 // How many entries of the log and how many triangles were written.
-pub struct Drawing {
+pub struct LidCounts {
     pub entries: u32,
     pub triangles: u32,
 }

@@ -2,13 +2,14 @@
 use mathlib.Core.Path.{_≡_, refl, sym, ap, _∙_}
 use mathlib.Core.List.{List, [], _∷_, _++_}
 use Prim.Native.Nat.{ℕ, zero, suc, _+_, _-_, _*_, _≤_, _<_}
-use native.Mathlib.Nat.{add-zero, add-suc, suc-add, sub-zero, mul-suc, add-assoc}
+use native.Mathlib.Nat.{add-zero, add-suc, suc-add, sub-zero, mul-suc, mul-add, add-assoc}
 use native.Mathlib.Numerals.{add-one}
 use native.Mathlib.Omega.{arith}
 use lib.ListN.{length, set}
 use lib.Seq.{sets}
 use Rattle.lists.specs.Loops.{list, join}
 use Rattle.lists.proofs.Loops.{list-step}
+use Rattle.lists.proofs.Lists.{join-append, join-size}
 
 module _ {A : Type 0} where
   -- one run behind another
@@ -22,6 +23,24 @@ module _ {A : Type 0} where
     where
       two : i + 2 ≡ suc (suc i)
       two = omega arith
+
+  -- four
+  pub sets-four : (l : List A) (i : ℕ) (x y z w : A) → set (set (set (set l i x) (i + 1) y) (i + 2) z) (i + 3) w ≡ sets l i (x ∷ y ∷ z ∷ w ∷ [])
+  sets-four l i x y z w = rw (three, two, add-one i)
+    where
+      two : i + 2 ≡ suc (suc i)
+      two = omega arith
+
+      three : i + 3 ≡ suc (suc (suc i))
+      three = omega arith
+
+-- records of w numbers stored behind others
+pub records-behind : {A B : Type 0} (write : A → List B) (w : ℕ) → ((a : A) → length (write a) ≡ w) → (l : List B) (n : ℕ) (xs ys : List A)
+    → sets (sets l (w * n) (join write xs)) (w * (n + length xs)) (join write ys) ≡ sets l (w * n) (join write (xs ++ ys))
+records-behind write w wide l n xs ys =
+    ap (λ (i : ℕ). sets (sets l (w * n) (join write xs)) i (join write ys)) (mul-add w n (length xs) ∙ ap (λ (k : ℕ). w * n + k) (sym (join-size write w wide xs)))
+    ∙ sets-append l (w * n) (join write xs) (join write ys)
+    ∙ ap (sets l (w * n)) (sym (join-append write xs ys))
 
 -- Records of w numbers, stored one after the other from place `at` on, counted in records: the facts that a loop's invariant
 -- `sets s (w * (at + i)) (join write (list f (n - i) i)) ≡ t` asks for, at the start, after one turn of the loop, and at the end.

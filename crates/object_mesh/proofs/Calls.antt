@@ -15,27 +15,16 @@ use Rattle.scene.specs.Answers.{checkedOf, objectsOf}
 use Rattle.scene.proofs.Walk.{checked-accepted, checked-refused}
 use Rattle.mesh.specs.declared.Validation.{Validation}
 use Rattle.mesh.specs.Validate.{validate}
-use Rattle.object_mesh.specs.declared.answers.Counted.{Counted}
+use Rattle.pass.specs.declared.Counted.{Counted}
 use Rattle.object_mesh.specs.declared.answers.Measured.the-variants.{Refused as NotMeasured, Counts as CountsAre}
 use Rattle.object_mesh.specs.declared.answers.BuiltAnswer.the-variants.{Refused}
-use Rattle.object_mesh.specs.declared.walk.Progress.{Progress}
+use Rattle.pass.specs.declared.Progress.{Progress}
 use Rattle.scene_mesh.specs.Operations.{Answer, Buffers, Built, output, noCounts, refusedWith, countsOf, done, measureScene, measure, tooShort, overlay, buildOutput, buildScene, build}
-use Rattle.object_mesh.specs.Pass.{AddedAll}
-use Rattle.object_mesh.specs.Answers.{countsFrom, measuredAnswer, builtWith, BuiltAndJudged, judged, buildAndValidate}
+use Rattle.pass.specs.Pass.{AddedAll}
+use Rattle.object_mesh.specs.Answers.{measuredAnswer, builtWith, BuiltAndJudged, judged, buildAndValidate}
+use Rattle.pass.specs.Wrote.{countsFrom}
 use Rattle.scene_mesh.specs.Demand3.{LongEnough, measured, Demand3Of}
 use Rattle.scene_mesh.proofs.Demand3.{long-enough, demand3}
-
--- what all objects take in each buffer fits u32
-pub fits : {limit : Float} {os : List Object} {p : Progress} {b b′ : Buffers} → AddedAll limit os p b b′
-    → (3 * p .vertices < 4294967296) × (3 * p .kept < 4294967296) × (5 * p .spans < 4294967296) × (4 * p .objects < 4294967296) × (4 * p .entries < 4294967296)
-fits a =
-    let v = a .bounded .vertices in
-    let k = a .bounded .kept in
-    let e = a .bounded .entries in
-    let s = a .bounded .spans in
-    let i = a .place in
-    let o = a .objects in
-    (omega arith, omega arith, omega arith, omega arith, omega arith)
 
 output-fits : (w b : Buffers) (n : ℕ)
     → (buildOutput w b n .answer .counts .vertices ≤ length (buildOutput w b n .buffers .vertices)) × (buildOutput w b n .answer .counts .indices ≤ length (buildOutput w b n .buffers .indices))

@@ -10,12 +10,13 @@ use lib.Ieee.{Float}
 use borrow.Author.Tests.{ltb-false}
 use Rattle.object.specs.Object.{Object}
 use Rattle.scene.specs.Scene.{accepted}
-use Rattle.object_mesh.specs.declared.answers.Counted.{Counted}
+use Rattle.pass.specs.declared.Counted.{Counted}
 use Rattle.object_mesh.specs.declared.answers.BuiltAnswer.{BuiltAnswer}
 use Rattle.object_mesh.specs.declared.answers.BuiltAnswer.the-variants.{Refused, ShortVertices, ShortIndices, ShortRecords, Complete}
 use Rattle.scene_mesh.specs.Operations.{Counts, Buffers, output, countsOf, done, tooShort, overlay, buildOutput, buildScene}
-use Rattle.object_mesh.specs.Answers.{countsFrom, builtWith, roomFor, stored}
-use Rattle.object_mesh.proofs.Pass.Tails.{sets-over}
+use Rattle.object_mesh.specs.Answers.{builtWith, roomFor}
+use Rattle.pass.specs.Wrote.{countsFrom, stored}
+use Rattle.pass.proofs.Pass.Tails.{sets-over}
 
 module _ (has : Counts) (needs : Counted) where
   abbrev noVertices : Bool

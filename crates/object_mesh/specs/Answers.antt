@@ -11,17 +11,14 @@ use Rattle.object.specs.Object.{Object}
 use Rattle.scene.specs.Scene.{numberOf}
 use Rattle.mesh.specs.declared.Validation.{Validation}
 use Rattle.mesh.specs.Validate.{validate}
-use Rattle.object_mesh.specs.declared.answers.Counted.{Counted}
+use Rattle.pass.specs.declared.Counted.{Counted}
 use Rattle.object_mesh.specs.declared.answers.Measured.{Measured}
 use Rattle.object_mesh.specs.declared.answers.Measured.the-variants.{Refused as NotMeasured, Counts as CountsAre}
 use Rattle.object_mesh.specs.declared.answers.BuiltAnswer.{BuiltAnswer}
 use Rattle.object_mesh.specs.declared.answers.BuiltAnswer.the-variants.{Refused, ShortVertices, ShortIndices, ShortRecords, Complete}
 use Rattle.object_mesh.specs.declared.c.Answer.{Answer as CAnswer}
-use Rattle.object_mesh.specs.declared.walk.Progress.{Progress}
+use Rattle.pass.specs.Wrote.{countsFrom}
 use Rattle.scene_mesh.specs.Operations.{Counts, Answer, Buffers, Built, refusedWith, output, countsOf, build}
-
-abbrev pub countsFrom : Counted → Counts
-countsFrom c = record { vertices = c .vertices; normals = c .normals; indices = c .indices; spans = c .spans; account = c .account; log = c .log }
 
 -- a call that is not refused
 abbrev pub accepts : Counted → Answer
@@ -47,11 +44,6 @@ abbrev pub answerNumbers : Answer → CAnswer
 answerNumbers a =
     record { refusal = a .number; object = a .object; vertices = a .counts .vertices; normals = a .counts .normals; indices = a .counts .indices; spans = a .counts .spans; account = a .counts .account; log = a .counts .log }
 
--- the numbers that the counted objects take in each buffer
-abbrev pub countedBy : Progress → Counted
-countedBy p =
-    record { vertices = 3 * p .vertices; normals = 3 * p .vertices; indices = 3 * p .kept; spans = 5 * p .spans; account = 4 * p .objects; log = 4 * p .entries }
-
 -- the first buffer that is too short, or Complete
 unfoldable pub roomFor : Counts → Counted → BuiltAnswer
 roomFor has needs =
@@ -59,16 +51,6 @@ roomFor has needs =
     (cond (ltb (has .indices) (needs .indices)) ShortIndices
     (cond (ltb (has .spans) (needs .spans) || ltb (has .account) (needs .account) || ltb (has .log) (needs .log)) ShortRecords
     (Complete needs)))
-
--- what is written stands from each buffer's start on; a store past a buffer's end is left out
-unfoldable pub stored : Buffers → Buffers → Buffers
-stored w b =
-    record { vertices = sets (b .vertices) 0 (w .vertices); normals = sets (b .normals) 0 (w .normals); indices = sets (b .indices) 0 (w .indices); spans = sets (b .spans) 0 (w .spans); account = sets (b .account) 0 (w .account); log = sets (b .log) 0 (w .log) }
-
--- all objects written and counted
-pub record WroteAll (limit : Float) (os : List Object) (c : Counted) (b b′ : Buffers) : Type 0 where
-  pub counts : countsFrom c ≡ countsOf (output limit os)
-  pub buffers : b′ ≡ stored (output limit os) b
 
 -- Build, and then Validate on the measured first part of the buffers: nothing of them where Build is refused
 pub record BuiltAndJudged : Type 0 where

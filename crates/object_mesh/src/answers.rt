@@ -1,19 +1,11 @@
 // What the operations answer: specs/Answers.antt gives document 01's number and values for each case.
 ghost use mathlib.Core.Path.{_≡_};
 ghost use Rattle.scene_mesh.specs.Operations.{Counts};
-ghost use Rattle.object_mesh.specs.Answers.{roomFor, builtAnswer, countsFrom};
+ghost use Rattle.object_mesh.specs.Answers.{roomFor, builtAnswer};
+ghost use Rattle.pass.specs.Wrote.{countsFrom};
 use mesh::Validation;
+use pass::Counted;
 use scene::Refusal;
-
-// How many numbers each buffer gets.
-pub struct Counted {
-    pub vertices: u32,
-    pub normals: u32,
-    pub indices: u32,
-    pub spans: u32,
-    pub account: u32,
-    pub log: u32,
-}
 
 // What Measure answers: by which row the scene is refused and the object named, or the counts.
 pub enum Measured {

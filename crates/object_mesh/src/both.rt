@@ -5,7 +5,7 @@ ghost use Rattle.float.specs.Number.{minArea};
 ghost use Rattle.object.specs.Object.{Object};
 ghost use Rattle.scene.specs.Scene.{scene, accepted};
 ghost use Rattle.scene_mesh.specs.Operations.{countsOf, measure, build};
-ghost use Rattle.object_mesh.specs.Pass.{lent};
+ghost use Rattle.pass.specs.Pass.{lent};
 ghost use Rattle.object_mesh.specs.Answers.{builtAnswer, builtWith, buildAndValidate};
 ghost use Rattle.scene_mesh.specs.Demand3.{LongEnough, measured, Demand3Of};
 use crate::answers::JudgedBuild;

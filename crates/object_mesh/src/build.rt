@@ -7,13 +7,13 @@ ghost use Rattle.scene.specs.declared.scenes.Checked.the-variants.{Accepted};
 ghost use Rattle.scene.specs.Scene.{scene, accepted};
 ghost use Rattle.scene.specs.Answers.{checkedOf};
 ghost use Rattle.scene_mesh.specs.Operations.{buildScene, build};
-ghost use Rattle.object_mesh.specs.Pass.{lent};
+ghost use Rattle.pass.specs.Pass.{lent};
 ghost use Rattle.object_mesh.specs.Answers.{builtWith};
 use crate::answers::BuiltAnswer;
 use crate::answers::room;
 use crate::measure::MIN_AREA;
 use crate::measure::count_objects;
-use crate::walk::write_objects;
+use pass::write_objects;
 use scene::scenes::Checked;
 
 // The n objects of an accepted scene.

@@ -2,12 +2,13 @@
 ghost use mathlib.Core.Path.{_≡_};
 ghost use Rattle.mesh.specs.Validate.{validate, validationNumbers};
 ghost use Rattle.scene_mesh.specs.Operations.{measure, build};
-ghost use Rattle.object_mesh.specs.Pass.{lent};
-ghost use Rattle.object_mesh.specs.Answers.{countsFrom, measuredAnswer, builtAnswer, answerNumbers};
+ghost use Rattle.pass.specs.Pass.{lent};
+ghost use Rattle.object_mesh.specs.Answers.{measuredAnswer, builtAnswer, answerNumbers};
+ghost use Rattle.pass.specs.Wrote.{countsFrom};
 use crate::answers::BuiltAnswer;
-use crate::answers::Counted;
 use crate::answers::Measured;
 use mesh::Judgement;
+use pass::Counted;
 use scene::refusal_number;
 
 // The refusal, 0 where there is none, the object named, and the counts.

@@ -1,9 +1,7 @@
-// Measure, Build and demand 3: see specs/Operations.antt and specs/Demand3.antt.
+// Measure, Build, and both with Validate under demand 3; the C functions.
 
 pub mod answers;
 pub mod both;
 pub mod build;
 pub mod c;
 pub mod measure;
-mod records;
-pub mod walk;

@@ -7,10 +7,11 @@ ghost use Rattle.scene.specs.declared.scenes.Checked.the-variants.{Accepted};
 ghost use Rattle.scene.specs.Scene.{scene, accepted};
 ghost use Rattle.scene.specs.Answers.{checkedOf};
 ghost use Rattle.scene_mesh.specs.Operations.{output, countsOf, measure};
-ghost use Rattle.object_mesh.specs.Answers.{countsFrom, measuredAnswer};
-use crate::answers::Counted;
+ghost use Rattle.object_mesh.specs.Answers.{measuredAnswer};
+ghost use Rattle.pass.specs.Wrote.{countsFrom};
 use crate::answers::Measured;
-use crate::walk::write_objects;
+use pass::Counted;
+use pass::write_objects;
 use scene::scenes::Checked;
 
 // Twice the area, in square metres, below which a triangle has none worth drawing.

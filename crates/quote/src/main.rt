@@ -8,7 +8,7 @@ use libc::STDOUT_FILENO;
 use mesh::Validation;
 use mesh::Verdict;
 use object_mesh::answers::BuiltAnswer;
-use object_mesh::answers::Counted;
+use pass::Counted;
 
 fn write(text: &[u8]) {
     io::write_all(STDOUT_FILENO, text);

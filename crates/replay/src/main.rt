@@ -9,7 +9,7 @@ use libc::STDOUT_FILENO;
 use mesh::Validation;
 use mesh::Verdict;
 use object_mesh::answers::BuiltAnswer;
-use object_mesh::answers::Counted;
+use pass::Counted;
 
 enum Next {
     Word(u32),

@@ -15,7 +15,8 @@ use Rattle.object.specs.Object.{Object, sweep, roundSweep}
 use Rattle.scene.specs.declared.Refusal.the-variants.{Past, Kind, Counts, Numbers}
 use Rattle.scene.specs.declared.headers.Body.{Body}
 use Rattle.scene.specs.declared.headers.Body.the-variants.{Solid, Outline, Sweep}
-use Rattle.scene.specs.Scene.{u16At, u32At, f32At, countsAt, all32, Record, bad, good, rest, solidAt, outlineCorners, outlineAt, sweepAt, kindAt, recordAt}
+use Rattle.fields.specs.Fields.{u16At, u32At, f32At, countsAt, all32}
+use Rattle.scene.specs.Scene.{Record, bad, good, rest, solidAt, outlineCorners, outlineAt, sweepAt, kindAt, recordAt}
 use Rattle.scene.specs.Headers.{volumeSize, bodySize, bodyAt, shapeOf, objectOf, headerAt, Limits}
 
 -- what holds on both sides of a test that is made twice holds of its outcomes

@@ -8,9 +8,9 @@ use borrow.Author.Tests.{ne-eqb}
 use Rattle.object.specs.declared.Extent.the-variants.{Unsized}
 use Rattle.scene.specs.declared.headers.Body.the-variants.{Solid, Sweep}
 use Rattle.scene.specs.declared.headers.Header.{Header}
-use Rattle.scene.specs.Scene.{u16At}
+use Rattle.fields.specs.Fields.{u16At}
 use Rattle.scene.specs.Headers.{bodyAt, headerAt}
-use Rattle.scene.proofs.Fields.{further, byte-past, u32-past}
+use Rattle.fields.proofs.Fields.{further, byte-past, u32-past}
 
 pub header-past : (s : List ℕ) (i : ℕ) → length s ≤ i → _≡_ {A = Header} (record { id = 0; body = Solid Unsized; size = 65 }) (headerAt s i)
 unfolding headerAt bodyAt

@@ -1,6 +1,5 @@
 pub mod Computes
 pub mod Accepted
-pub mod Fields
 pub mod Parts
 pub mod RecordLaws
 pub mod SceneLaws

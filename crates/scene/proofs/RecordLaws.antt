@@ -12,10 +12,11 @@ use Rattle.object.specs.declared.Section.{Section}
 use Rattle.object.specs.declared.Extent.{Extent}
 use Rattle.object.specs.Object.{Shape, solid, outline, Object}
 use Rattle.scene.specs.declared.Refusal.the-variants.{Past, Kind, Counts, Numbers}
-use Rattle.scene.specs.Scene.{u16At, u32At, pointAt, orientationAt, cornersAt, sectionsAt, countsAt, holesAt, all32, all64, Record, bad, good, rest, solidAt, outlineCorners, outlineAt, sweepAt, kindAt, recordAt}
+use Rattle.fields.specs.Fields.{u16At, u32At, pointAt, orientationAt, cornersAt, sectionsAt, countsAt, holesAt, all32, all64}
+use Rattle.scene.specs.Scene.{Record, bad, good, rest, solidAt, outlineCorners, outlineAt, sweepAt, kindAt, recordAt}
 use Rattle.scene.specs.declared.records.RecordEnd.{RecordEnd}
 use Rattle.scene.specs.Answers.{endOf}
-use Rattle.scene.proofs.Fields.{u16-past}
+use Rattle.fields.proofs.Fields.{u16-past}
 
 -- ---- n bytes from place i on, before e
 

@@ -13,7 +13,8 @@ use Rattle.scene.specs.declared.Refusal.the-variants.{Length, Trailer, S
 use Rattle.scene.specs.declared.records.RecordEnd.the-variants.{Bad, At}
 use Rattle.scene.specs.declared.scenes.Checked.{Checked}
 use Rattle.scene.specs.declared.scenes.Checked.the-variants.{Refused, Accepted}
-use Rattle.scene.specs.Scene.{u32At, Record, bad, good, recordAt, Scene, refused, accepted, prepend, recordThen, recordsFrom, trailer, countAt, scene}
+use Rattle.fields.specs.Fields.{u32At}
+use Rattle.scene.specs.Scene.{Record, bad, good, recordAt, Scene, refused, accepted, prepend, recordThen, recordsFrom, trailer, countAt, scene}
 use Rattle.scene.specs.Answers.{endOf, checkedOf}
 
 -- k objects more

@@ -16,7 +16,8 @@ use Rattle.object.specs.Object.{Object}
 use Rattle.scene.specs.declared.Refusal.{Refusal}
 use Rattle.scene.specs.declared.Refusal.the-variants.{Length, Trailer, Start}
 use Rattle.scene.specs.declared.scenes.Checked.the-variants.{Refused, Accepted}
-use Rattle.scene.specs.Scene.{u32At, Record, bad, good, recordAt, Scene, refused, accepted, prepend, recordThen, recordsFrom, trailer, countAt, scene}
+use Rattle.fields.specs.Fields.{u32At}
+use Rattle.scene.specs.Scene.{Record, bad, good, recordAt, Scene, refused, accepted, prepend, recordThen, recordsFrom, trailer, countAt, scene}
 use Rattle.scene.specs.Answers.{checkedOf, objectsOf}
 use Rattle.scene.specs.Headers.{bodyAt, bodySize, objectOf, headerAt, Limits}
 use Rattle.scene.proofs.Described.{Read, read}

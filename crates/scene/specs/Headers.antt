@@ -8,7 +8,7 @@ use Rattle.lists.specs.Loops.{sumOf}
 use Rattle.object.specs.declared.Extent.{Extent}
 use Rattle.object.specs.declared.Extent.the-variants.{Box, Cylinder, Unsized}
 use Rattle.object.specs.Object.{Shape, solid, outline, sweep, roundSweep, Object}
-use Rattle.scene.specs.Scene.{u16At, u32At, f32At, pointAt, orientationAt, cornersAt, sectionsAt, countsAt, holesAt}
+use Rattle.fields.specs.Fields.{u16At, u32At, f32At, pointAt, orientationAt, cornersAt, sectionsAt, countsAt, holesAt}
 use Rattle.scene.specs.declared.headers.Body.{Body}
 use Rattle.scene.specs.declared.headers.Body.the-variants.{Solid, Outline, Sweep}
 use Rattle.scene.specs.declared.headers.Header.{Header}

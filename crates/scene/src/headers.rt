@@ -1,14 +1,13 @@
 // What a record of an accepted scene holds, read where it lies. Nothing is tested: the checking
 // pass has done that, and past the end every byte counts as 0.
-
 ghost use mathlib.Core.Path.{_≡_};
 ghost use Prim.Native.Nat.{_+_, _≤_};
 ghost use lib.ListN.{length};
 ghost use Rattle.scene.specs.Headers.{volumeSize, bodyAt, bodySize, headerAt};
-use crate::bytes::f32_at;
-use crate::bytes::u16_at;
-use crate::bytes::u32_at;
 use crate::records::sum_counts;
+use fields::f32_at;
+use fields::u16_at;
+use fields::u32_at;
 use object::Extent;
 
 // What a record holds behind its kind and id. Corners and sections stay in the scene: `shapeOf`

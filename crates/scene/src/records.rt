@@ -1,6 +1,5 @@
 // Checks one record of a scene. No check turns on the id, a solid's volume, whether an outline is
 // closed or which sweep it is, so the contracts hold for each of them.
-
 ghost use mathlib.Core.Path.{_≡_};
 ghost use mathlib.Core.Bool.{Bool};
 ghost use mathlib.Core.List.{List};
@@ -10,13 +9,14 @@ ghost use Rattle.lists.specs.Loops.{sumOf};
 ghost use Rattle.object.specs.declared.Extent.{Extent};
 ghost use Rattle.object.specs.declared.Section.{Section};
 ghost use Rattle.object.specs.Object.{Shape};
-ghost use Rattle.scene.specs.Scene.{countsAt, solidAt, outlineCorners, outlineAt, sweepAt, kindAt, recordAt};
+ghost use Rattle.fields.specs.Fields.{countsAt};
+ghost use Rattle.scene.specs.Scene.{solidAt, outlineCorners, outlineAt, sweepAt, kindAt, recordAt};
 ghost use Rattle.scene.specs.Answers.{endOf};
 use crate::Refusal;
-use crate::bytes::u16_at;
-use crate::bytes::u16_in;
-use crate::numbers::all_allowed32;
-use crate::numbers::orientation_allowed;
+use fields::numbers::all_allowed32;
+use fields::numbers::orientation_allowed;
+use fields::u16_at;
+use fields::u16_in;
 
 // Where a record ends, or by which row it is refused.
 pub enum RecordEnd {

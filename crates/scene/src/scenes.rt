@@ -1,14 +1,13 @@
 // Checks a whole scene.
-
 ghost use mathlib.Core.Path.{_≡_};
 ghost use Prim.Native.Nat.{_+_, _*_, _≤_};
 ghost use lib.ListN.{length};
 ghost use Rattle.scene.specs.Scene.{scene, recordsFrom};
 ghost use Rattle.scene.specs.Answers.{checkedOf};
 use crate::Refusal;
-use crate::bytes::u32_in;
 use crate::records::RecordEnd;
 use crate::records::check_record;
+use fields::u32_in;
 
 pub enum Checked {
     // By which row, and the object named.

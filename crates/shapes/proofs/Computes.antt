@@ -2,9 +2,7 @@
 use lib.Ieee.{neg, lt, eq}
 use Rattle.shapes.specs.Shapes.{onAxis, boxPoint, boxFace, boxSides, box, ringPoint, ringAt, cylinderSide, endFace, cylinderFaces, cylinder, solidFaces, wall, walls, outerWalls, holeWalls, allCorners, flatOf, outlineLid, hasHeight, lidFaces, outlineFaces, sameCorner, isThinSection, isFlatSection, pairFaces, pairs, startOut, endOut, cap, sweepCaps, sweepFaces, ellipsePoint, ellipse, tubeSide, tubeFaces, tubeCaps, roundSweepFaces, facesOf, logOf}
 use Rattle.shapes.specs.Price.{lessFor, solidPrice, outlinePrice, pairPrice, pairsPrice, capsPrice, offered}
-use Rattle.shapes.specs.Outlines.{pointsAt}
-use Rattle.shapes.specs.SolidParts.{axisOf}
 
 unfoldable pub computes : Unit {0}
-unfolding neg lt eq onAxis boxPoint boxFace boxSides box ringPoint ringAt cylinderSide endFace cylinderFaces cylinder solidFaces wall walls outerWalls holeWalls allCorners flatOf outlineLid hasHeight lidFaces outlineFaces sameCorner isThinSection isFlatSection pairFaces pairs startOut endOut cap sweepCaps sweepFaces ellipsePoint ellipse tubeSide tubeFaces tubeCaps roundSweepFaces facesOf logOf lessFor solidPrice outlinePrice pairPrice pairsPrice capsPrice offered pointsAt axisOf
+unfolding neg lt eq onAxis boxPoint boxFace boxSides box ringPoint ringAt cylinderSide endFace cylinderFaces cylinder solidFaces wall walls outerWalls holeWalls allCorners flatOf outlineLid hasHeight lidFaces outlineFaces sameCorner isThinSection isFlatSection pairFaces pairs startOut endOut cap sweepCaps sweepFaces ellipsePoint ellipse tubeSide tubeFaces tubeCaps roundSweepFaces facesOf logOf lessFor solidPrice outlinePrice pairPrice pairsPrice capsPrice offered
 computes = tt

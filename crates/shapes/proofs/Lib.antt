@@ -6,15 +6,3 @@ pub mod Prices
 pub mod Flats
 pub mod Sizes
 pub mod Rooms
-pub mod Rings
-pub mod SolidLaws
-pub mod EndLaws
-pub mod Neighbours
-pub mod SweepFaces
-pub mod RingFaces
-pub mod SweepPrices
-pub mod Drawings
-pub mod CornerLaws
-pub mod WallLaws
-pub mod LidLaws
-pub mod OutlineLaws

@@ -22,7 +22,7 @@ use Rattle.object.specs.declared.Orientation.{Orientation}
 use Rattle.object.specs.Object.{Shape, solid, outline, sweep, roundSweep, frame}
 use Rattle.scene.specs.declared.headers.Body.{Body}
 use Rattle.scene.specs.declared.headers.Body.the-variants.{Solid, Outline, Sweep}
-use Rattle.scene.specs.Scene.{pointAt, orientationAt, countsAt, cornersAt, holesAt, sectionsAt}
+use Rattle.fields.specs.Fields.{pointAt, orientationAt, countsAt, cornersAt, holesAt, sectionsAt}
 use Rattle.scene.specs.Headers.{bodySize, shapeOf, Limits}
 use Rattle.scene.proofs.Parts.{holes-length, corners-count, sections-length, counts-length}
 use Rattle.face.specs.Faces.{Triangle, Face, quad, fan}

@@ -10,7 +10,7 @@ use Rattle.scene.specs.declared.headers.Body.{Body}
 use Rattle.scene.specs.Headers.{bodySize, Limits}
 use Rattle.face.specs.Drawing.{tally, drawing, Drew}
 use Rattle.lid.specs.Log.{logNumbers}
-use Rattle.shapes.specs.declared.draw.Drawn.{Drawn}
+use Rattle.shapes.specs.declared.Drawn.{Drawn}
 use Rattle.shapes.specs.Shapes.{facesOf, logOf}
 use Rattle.shapes.specs.Price.{offered}
 

@@ -1,15 +1,18 @@
-// The faces of each shape and the price list: see specs/Shapes.antt and specs/Price.antt.
+// The faces of each shape and the price list: see specs/Shapes.antt and specs/Price.antt. The crates
+// above draw them.
 
-pub mod draw;
-mod ellipses;
-mod ends;
-mod lids;
-pub mod outlines;
-mod planes;
-pub mod price;
-pub mod round_sweeps;
-mod sections;
-pub mod solids;
-pub mod sweep_price;
-pub mod sweeps;
-mod walls;
+use face::Tally;
+
+// What drawing one object came to.
+pub struct Drawn {
+    pub tally: Tally,
+    pub offered: u32,
+    pub entries: u32,
+}
+
+// Nothing drawn.
+pub const NOTHING: Tally = Tally {
+    vertices: 0,
+    kept: 0,
+    thin: 0,
+};

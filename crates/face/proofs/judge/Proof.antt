@@ -4,24 +4,9 @@ use Rattle.face.specs.Offered.{sideOf}
 use Rattle.face.proofs.judge.Statement.{statement}
 use Rattle.face.proofs.judge.Tie as tie
 
-sub-requires : tie.Need-sub-requires
-sub-requires c κs = search needs
-
-sub-requires-2 : tie.Need-sub-requires-2
-sub-requires-2 c κs = search needs
-
-cross-requires : tie.Need-cross-requires
-cross-requires c κs = search needs
-
-shorter-than-requires : tie.Need-shorter-than-requires
-shorter-than-requires c κs = search needs
-
 returns : tie.Need-returns
 unfolding sideOf
 returns c = rw (← c .before .before .before .before .sub .ensures, ← c .before .before .before .sub2 .ensures, ← c .before .before .cross .ensures, ← c .before .shorter-than .ensures, c .if1 .taken)
-
-dot-requires : tie.Need-dot-requires
-dot-requires c κs = search needs
 
 returns-2 : tie.Need-returns-2
 unfolding sideOf
@@ -34,12 +19,5 @@ returns-3 c = rw (← c .before .before .before .before .before .before .sub .en
 pub judge-spec : {M : Type 1} → statement M
 judge-spec =
     tie.close
-    (tie.spec
-    sub-requires
-    sub-requires-2
-    cross-requires
-    shorter-than-requires
-    returns
-    dot-requires
-    returns-2
+    (tie.spec (λ c κs. search needs) (λ c κs. search needs) (λ c κs. search needs) (λ c κs. search needs) returns (λ c κs. search needs) returns-2
     returns-3)

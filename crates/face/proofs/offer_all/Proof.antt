@@ -22,9 +22,6 @@ Inv-loop points triangles out limit base n is₀ m s₀ j₀ is s j =
 abbrev μ-loop : tie.MeasureT-loop
 μ-loop points triangles out limit base n is₀ m s₀ j₀ is s j = m - j
 
-new-requires : tie.Need-new-requires Inv-loop μ-loop
-new-requires c κs = search needs
-
 loop-holds : tie.Need-loop-holds Inv-loop μ-loop
 unfolding offerAll trianglesIn
 loop-holds c =
@@ -42,12 +39,6 @@ offer-at-requires c κs =
     let low = low-at (length (a .points .now) / 3) (triangleAt ts) (length ts / 3) (l .j) h (rw (length-vertices (a .points .now)) at (s .pre .2)) in
     (h, low, s .pre .0, omega arith, omega arith)
 
-add-j : tie.Need-add-j Inv-loop μ-loop
-add-j c = omega arith
-
-loop-less : tie.Need-loop-less Inv-loop μ-loop
-loop-less c = omega arith
-
 loop-again : tie.Need-loop-again Inv-loop μ-loop
 loop-again c =
     let a = c .before .before .before .before .before .before .before .before .before .before .args in
@@ -55,9 +46,6 @@ loop-again c =
     let e = c .before .before .offer-at .ensures in
     let step = one-counted (a .limit) (verticesIn (a .points .now)) (a .out) (a .base) (a .n) (offered (l .s) (l .is)) _ (triangleAt (a .triangles .now) (l .j)) e in
     (omega arith, omega arith, search needs, fold-next (offerOne (a .limit) (verticesIn (a .points .now)) (a .out) (a .base) (a .n)) (triangleAt (a .triangles .now)) (length (a .triangles .now) / 3) (l .j) (offered (l .s) (l .is)) _ _ (omega arith) e (l .inv .3))
-
-same-length : tie.Need-same-length Inv-loop μ-loop
-same-length c = search needs
 
 returns : tie.Need-returns Inv-loop μ-loop
 returns c =
@@ -68,14 +56,5 @@ returns c =
 pub offer-all-spec : {M : Type 1} → statement M
 offer-all-spec =
     tie.close
-    (tie.spec
-    Inv-loop
-    μ-loop
-    new-requires
-    loop-holds
-    offer-at-requires
-    add-j
-    loop-less
-    loop-again
-    same-length
+    (tie.spec Inv-loop μ-loop (λ c κs. search needs) loop-holds offer-at-requires (λ c. omega arith) (λ c. omega arith) loop-again (λ c. search needs)
     returns)

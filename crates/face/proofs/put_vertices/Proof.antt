@@ -28,9 +28,6 @@ Inv-loop points normal at vs₀ ns₀ n k₀ vs ns k =
 abbrev μ-loop : tie.MeasureT-loop
 μ-loop points normal at vs₀ ns₀ n k₀ vs ns k = n - k
 
-cast-n : tie.Need-cast-n Inv-loop μ-loop
-cast-n c = search needs
-
 loop-holds : tie.Need-loop-holds Inv-loop μ-loop
 unfolding vertexNumbers normalNumbers verticesIn
 loop-holds c =
@@ -42,30 +39,6 @@ loop-holds c =
       store-start vertexRecord 3 (λ p. refl) (vertexAt (a .points .now)) n (a .at) (a .vs .now),
       store-start normalRecord 3 (λ v. refl) (λ i. a .normal) n (a .at) (a .ns .now) ∙ rw (list-constant (a .normal) n 0, length-vertices (a .points .now)),
     )
-
-wide-requires : tie.Need-wide-requires Inv-loop μ-loop
-wide-requires c κs = search needs
-
-vertex-at-requires : tie.Need-vertex-at-requires Inv-loop μ-loop
-vertex-at-requires c κs = omega arith
-
-add-put-floats : tie.Need-add-put-floats Inv-loop μ-loop
-add-put-floats c = omega arith
-
-put-floats-requires : tie.Need-put-floats-requires Inv-loop μ-loop
-put-floats-requires c κs = search needs
-
-add-put-floats-2 : tie.Need-add-put-floats-2 Inv-loop μ-loop
-add-put-floats-2 c = omega arith
-
-put-floats-requires-2 : tie.Need-put-floats-requires-2 Inv-loop μ-loop
-put-floats-requires-2 c κs = search needs
-
-add-k : tie.Need-add-k Inv-loop μ-loop
-add-k c = omega arith
-
-loop-less : tie.Need-loop-less Inv-loop μ-loop
-loop-less c = omega arith
 
 loop-again : tie.Need-loop-again Inv-loop μ-loop
 loop-again c =
@@ -79,12 +52,6 @@ loop-again c =
       store-next normalRecord 3 (λ v. refl) (λ i. a .normal) n (a .at) (l .k) (l .ns) _ _ (omega arith) (c .before .before .put-floats2 .ensures) (l .inv .4),
     )
 
-same-length : tie.Need-same-length Inv-loop μ-loop
-same-length c = search needs
-
-same-length-2 : tie.Need-same-length-2 Inv-loop μ-loop
-same-length-2 c = search needs
-
 returns : tie.Need-returns Inv-loop μ-loop
 returns c =
     let a = c .before .before .before .before .before .args in
@@ -97,20 +64,5 @@ returns c =
 pub put-vertices-spec : {M : Type 1} → statement M
 put-vertices-spec =
     tie.close
-    (tie.spec
-    Inv-loop
-    μ-loop
-    cast-n
-    loop-holds
-    wide-requires
-    vertex-at-requires
-    add-put-floats
-    put-floats-requires
-    add-put-floats-2
-    put-floats-requires-2
-    add-k
-    loop-less
-    loop-again
-    same-length
-    same-length-2
-    returns)
+    (tie.spec Inv-loop μ-loop (λ c. search needs) loop-holds (λ c κs. search needs) (λ c κs. omega arith) (λ c. omega arith) (λ c κs. search needs)
+    (λ c. omega arith) (λ c κs. search needs) (λ c. omega arith) (λ c. omega arith) loop-again (λ c. search needs) (λ c. search needs) returns)

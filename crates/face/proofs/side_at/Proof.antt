@@ -5,18 +5,6 @@ use Rattle.face.specs.Offered.{sideIn}
 use Rattle.face.proofs.side_at.Statement.{statement}
 use Rattle.face.proofs.side_at.Tie as tie
 
-vertex-at-requires : tie.Need-vertex-at-requires
-vertex-at-requires c κs = search needs
-
-vertex-at-requires-2 : tie.Need-vertex-at-requires-2
-vertex-at-requires-2 c κs = search needs
-
-vertex-at-requires-3 : tie.Need-vertex-at-requires-3
-vertex-at-requires-3 c κs = search needs
-
-judge-requires : tie.Need-judge-requires
-judge-requires c κs = search needs
-
 returns : tie.Need-returns
 unfolding sideIn
 returns c = let s = c .before .before .before .before .before in let xs = s .args .points .now in rw (← vertex-in xs (s .args .a) (s .pre .0), ← vertex-in xs (s .args .b) (s .pre .1), ← vertex-in xs (s .args .c) (s .pre .2), ← c .before .before .before .vertex-at .ensures, ← c .before .before .vertex-at2 .ensures, ← c .before .vertex-at3 .ensures) (c .judge .ensures)
@@ -24,4 +12,4 @@ returns c = let s = c .before .before .before .before .before in let xs = s .arg
 pub side-at-spec : {M : Type 1} → statement M
 side-at-spec =
     tie.close
-    (tie.spec vertex-at-requires vertex-at-requires-2 vertex-at-requires-3 judge-requires returns)
+    (tie.spec (λ c κs. search needs) (λ c κs. search needs) (λ c κs. search needs) (λ c κs. search needs) returns)

@@ -11,41 +11,8 @@ Inv-loop s h₀ k₀ h k = k ≤ length s
 abbrev μ-loop : tie.MeasureT-loop
 μ-loop s h₀ k₀ h k = length s - k
 
-loop-holds : tie.Need-loop-holds Inv-loop μ-loop
-loop-holds c = search needs
-
-mul-with-word : tie.Need-mul-with-word Inv-loop μ-loop
-mul-with-word c = search needs
-
-shared-slice-read-with-word : tie.Need-shared-slice-read-with-word Inv-loop μ-loop
-shared-slice-read-with-word c = search needs
-
-with-word-requires : tie.Need-with-word-requires Inv-loop μ-loop
-with-word-requires c κs = search needs
-
-add-k : tie.Need-add-k Inv-loop μ-loop
-add-k c = search needs
-
-loop-less : tie.Need-loop-less Inv-loop μ-loop
-loop-less c = search needs
-
-loop-again : tie.Need-loop-again Inv-loop μ-loop
-loop-again c = search needs
-
-returns : tie.Need-returns Inv-loop μ-loop
-returns c = search needs
-
 pub hash-numbers-spec : {M : Type 1} → statement M
 hash-numbers-spec =
     tie.close
-    (tie.spec
-    Inv-loop
-    μ-loop
-    loop-holds
-    mul-with-word
-    shared-slice-read-with-word
-    with-word-requires
-    add-k
-    loop-less
-    loop-again
-    returns)
+    (tie.spec Inv-loop μ-loop (λ c. search needs) (λ c. search needs) (λ c. search needs) (λ c κs. search needs) (λ c. search needs)
+    (λ c. search needs) (λ c. search needs) (λ c. search needs))

@@ -14,11 +14,9 @@ zero-by-zero = refl
 float-from-bits-result : tie.Need-float-from-bits-result
 float-from-bits-result c = no-nan-bits binary64 (c .before .args .bits) (c .if1 .taken)
 
-returns : tie.Need-returns
-returns c = search needs
-
 returns-2 : tie.Need-returns-2
 returns-2 c = zero-by-zero ∙ no-number binary64 (c .before .args .bits) (c .if1 .left)
 
 pub double-spec : {M : Type 1} → statement M
-double-spec = tie.close (tie.spec float-from-bits-result returns returns-2)
+double-spec = tie.close
+    (tie.spec float-from-bits-result (λ c. search needs) returns-2)

@@ -5,17 +5,8 @@ use Rattle.object_mesh.proofs.Rooms.{short-vertices, short-indices, sho
 use Rattle.object_mesh.proofs.answers.room.Statement.{statement}
 use Rattle.object_mesh.proofs.answers.room.Tie as tie
 
-wide-requires : tie.Need-wide-requires
-wide-requires c κs = search needs
-
-wide-requires-2 : tie.Need-wide-requires-2
-wide-requires-2 c κs = search needs
-
 returns : tie.Need-returns
 returns c = short-vertices _ _ (rw (c .before .before .wide .ensures, c .before .wide2 .ensures) at (c .if1 .taken))
-
-wide-requires-3 : tie.Need-wide-requires-3
-wide-requires-3 c κs = search needs
 
 returns-2 : tie.Need-returns-2
 returns-2 c =
@@ -24,15 +15,6 @@ returns-2 c =
     let c₃ = c₂ .before in
     let c₄ = c₃ .before in
     short-indices _ _ (rw (c₄ .wide .ensures, c₃ .wide2 .ensures) at (c₂ .if1 .left)) (lt-ltb _ _ (rw (c₁ .wide3 .ensures) at (c .if2 .taken)))
-
-wide-requires-4 : tie.Need-wide-requires-4
-wide-requires-4 c κs = search needs
-
-wide-requires-5 : tie.Need-wide-requires-5
-wide-requires-5 c κs = search needs
-
-wide-requires-6 : tie.Need-wide-requires-6
-wide-requires-6 c κs = search needs
 
 returns-3 : tie.Need-returns-3
 returns-3 c =
@@ -61,14 +43,5 @@ returns-4 c =
 pub room-spec : {M : Type 1} → statement M
 room-spec =
     tie.close
-    (tie.spec
-    wide-requires
-    wide-requires-2
-    returns
-    wide-requires-3
-    returns-2
-    wide-requires-4
-    wide-requires-5
-    wide-requires-6
-    returns-3
-    returns-4)
+    (tie.spec (λ c κs. search needs) (λ c κs. search needs) returns (λ c κs. search needs) returns-2 (λ c κs. search needs) (λ c κs. search needs)
+    (λ c κs. search needs) returns-3 returns-4)

@@ -7,18 +7,6 @@ use Rattle.scene_mesh.specs.Operations.{Counts}
 use Rattle.object_mesh.proofs.both.build_and_validate.Statement.{statement}
 use Rattle.object_mesh.proofs.both.build_and_validate.Tie as tie
 
-build-requires : tie.Need-build-requires
-build-requires c κs = search needs
-
-counts-requires : tie.Need-counts-requires
-counts-requires c κs = search needs
-
-wide-requires : tie.Need-wide-requires
-wide-requires c κs = search needs
-
-wide-requires-2 : tie.Need-wide-requires-2
-wide-requires-2 c κs = search needs
-
 slice-reshare-prefix-validate : tie.Need-slice-reshare-prefix-validate
 slice-reshare-prefix-validate c =
     let c₁ = c .before in
@@ -51,27 +39,6 @@ slice-aggregate-validate-2 c =
     let h = indices-fit _ _ (c₃ .build .ensures) (c₁ .wide2 .ensures ∙ ap (λ (k : Counts). k .indices) (c₂ .counts .ensures)) in
     sym (length-take-le _ _ h)
 
-validate-requires : tie.Need-validate-requires
-validate-requires c κs = search needs
-
-same-length : tie.Need-same-length
-same-length c = search needs
-
-same-length-2 : tie.Need-same-length-2
-same-length-2 c = search needs
-
-same-length-3 : tie.Need-same-length-3
-same-length-3 c = search needs
-
-same-length-4 : tie.Need-same-length-4
-same-length-4 c = search needs
-
-same-length-5 : tie.Need-same-length-5
-same-length-5 c = search needs
-
-same-length-6 : tie.Need-same-length-6
-same-length-6 c = search needs
-
 returns : tie.Need-returns
 returns c =
     let c₁ = c .before .before .before in
@@ -83,20 +50,6 @@ returns c =
 pub build-and-validate-spec : {M : Type 1} → statement M
 build-and-validate-spec =
     tie.close
-    (tie.spec
-    build-requires
-    counts-requires
-    wide-requires
-    wide-requires-2
-    slice-reshare-prefix-validate
-    slice-aggregate-validate
-    slice-reshare-prefix-validate-2
-    slice-aggregate-validate-2
-    validate-requires
-    same-length
-    same-length-2
-    same-length-3
-    same-length-4
-    same-length-5
-    same-length-6
-    returns)
+    (tie.spec (λ c κs. search needs) (λ c κs. search needs) (λ c κs. search needs) (λ c κs. search needs) slice-reshare-prefix-validate
+    slice-aggregate-validate slice-reshare-prefix-validate-2 slice-aggregate-validate-2 (λ c κs. search needs) (λ c. search needs) (λ c. search needs)
+    (λ c. search needs) (λ c. search needs) (λ c. search needs) (λ c. search needs) returns)

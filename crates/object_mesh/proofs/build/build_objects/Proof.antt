@@ -4,51 +4,9 @@ use borrow.Author.Needs.{needs}
 use Rattle.float.specs.Number.{minArea}
 use Rattle.object_mesh.proofs.Rooms.{built-short, built-complete}
 use Rattle.scene_mesh.specs.Operations.{countsOf}
-use Rattle.object_mesh.specs.Pass.{lent}
+use Rattle.pass.specs.Pass.{lent}
 use Rattle.object_mesh.proofs.build.build_objects.Statement.{statement}
 use Rattle.object_mesh.proofs.build.build_objects.Tie as tie
-
-count-objects-requires : tie.Need-count-objects-requires
-count-objects-requires c κs = search needs
-
-room-requires : tie.Need-room-requires
-room-requires c κs = search needs
-
-enum-told : tie.Need-enum-told
-enum-told c = search needs
-
-write-objects-requires : tie.Need-write-objects-requires
-write-objects-requires c κs = search needs
-
-enum-told-2 : tie.Need-enum-told-2
-enum-told-2 c = search needs
-
-enum-told-3 : tie.Need-enum-told-3
-enum-told-3 c = search needs
-
-enum-told-4 : tie.Need-enum-told-4
-enum-told-4 c = search needs
-
-enum-known-f : tie.Need-enum-known-f
-enum-known-f c = search needs
-
-same-length : tie.Need-same-length
-same-length c = search needs
-
-same-length-2 : tie.Need-same-length-2
-same-length-2 c = search needs
-
-same-length-3 : tie.Need-same-length-3
-same-length-3 c = search needs
-
-same-length-4 : tie.Need-same-length-4
-same-length-4 c = search needs
-
-same-length-5 : tie.Need-same-length-5
-same-length-5 c = search needs
-
-same-length-6 : tie.Need-same-length-6
-same-length-6 c = search needs
 
 returns : tie.Need-returns
 unfolding countsOf
@@ -83,23 +41,6 @@ returns-5 c =
 pub build-objects-spec : {M : Type 1} → statement M
 build-objects-spec =
     tie.close
-    (tie.spec
-    count-objects-requires
-    room-requires
-    enum-told
-    write-objects-requires
-    enum-told-2
-    enum-told-3
-    enum-told-4
-    enum-known-f
-    same-length
-    same-length-2
-    same-length-3
-    same-length-4
-    same-length-5
-    same-length-6
-    returns
-    returns-2
-    returns-3
-    returns-4
-    returns-5)
+    (tie.spec (λ c κs. search needs) (λ c κs. search needs) (λ c. search needs) (λ c κs. search needs) (λ c. search needs) (λ c. search needs)
+    (λ c. search needs) (λ c. search needs) (λ c. search needs) (λ c. search needs) (λ c. search needs) (λ c. search needs) (λ c. search needs)
+    (λ c. search needs) returns returns-2 returns-3 returns-4 returns-5)

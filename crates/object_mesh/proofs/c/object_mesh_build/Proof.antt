@@ -6,30 +6,6 @@ use Rattle.scene_mesh.specs.Operations.{Built}
 use Rattle.object_mesh.proofs.c.object_mesh_build.Statement.{statement}
 use Rattle.object_mesh.proofs.c.object_mesh_build.Tie as tie
 
-build-requires : tie.Need-build-requires
-build-requires c κs = search needs
-
-numbers-requires : tie.Need-numbers-requires
-numbers-requires c κs = search needs
-
-same-length : tie.Need-same-length
-same-length c = search needs
-
-same-length-2 : tie.Need-same-length-2
-same-length-2 c = search needs
-
-same-length-3 : tie.Need-same-length-3
-same-length-3 c = search needs
-
-same-length-4 : tie.Need-same-length-4
-same-length-4 c = search needs
-
-same-length-5 : tie.Need-same-length-5
-same-length-5 c = search needs
-
-same-length-6 : tie.Need-same-length-6
-same-length-6 c = search needs
-
 returns : tie.Need-returns
 returns c =
     let c₁ = c .before .before .before .before .before .before .before .before .before .before .before .before .before in
@@ -38,13 +14,5 @@ returns c =
 pub object-mesh-build-spec : {M : Type 1} → statement M
 object-mesh-build-spec =
     tie.close
-    (tie.spec
-    build-requires
-    numbers-requires
-    same-length
-    same-length-2
-    same-length-3
-    same-length-4
-    same-length-5
-    same-length-6
-    returns)
+    (tie.spec (λ c κs. search needs) (λ c κs. search needs) (λ c. search needs) (λ c. search needs) (λ c. search needs) (λ c. search needs)
+    (λ c. search needs) (λ c. search needs) returns)

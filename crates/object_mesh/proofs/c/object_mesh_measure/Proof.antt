@@ -5,14 +5,9 @@ use Rattle.object_mesh.specs.Answers.{answerNumbers}
 use Rattle.object_mesh.proofs.c.object_mesh_measure.Statement.{statement}
 use Rattle.object_mesh.proofs.c.object_mesh_measure.Tie as tie
 
-measure-requires : tie.Need-measure-requires
-measure-requires c κs = search needs
-
-numbers-requires : tie.Need-numbers-requires
-numbers-requires c κs = search needs
-
 returns : tie.Need-returns
 returns c = c .numbers .ensures ∙ ap answerNumbers (c .before .measure .ensures)
 
 pub object-mesh-measure-spec : {M : Type 1} → statement M
-object-mesh-measure-spec = tie.close (tie.spec measure-requires numbers-requires returns)
+object-mesh-measure-spec = tie.close
+    (tie.spec (λ c κs. search needs) (λ c κs. search needs) returns)

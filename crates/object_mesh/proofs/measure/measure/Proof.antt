@@ -5,15 +5,6 @@ use Rattle.object_mesh.proofs.Calls.{measure-refused, measure-accepted}
 use Rattle.object_mesh.proofs.measure.measure.Statement.{statement}
 use Rattle.object_mesh.proofs.measure.measure.Tie as tie
 
-check-scene-requires : tie.Need-check-scene-requires
-check-scene-requires c κs = search needs
-
-enum-known-f : tie.Need-enum-known-f
-enum-known-f c = search needs
-
-enum-known-n : tie.Need-enum-known-n
-enum-known-n c = search needs
-
 count-objects-requires : tie.Need-count-objects-requires
 count-objects-requires c κs = sym (c .before .n .given .1) ∙ c .before .before .before .check-scene .ensures
 
@@ -26,10 +17,4 @@ returns-2 c = measure-accepted _ _ _ (sym (c .before .before .n .given .1) ∙ c
 pub measure-spec : {M : Type 1} → statement M
 measure-spec =
     tie.close
-    (tie.spec
-    check-scene-requires
-    enum-known-f
-    enum-known-n
-    count-objects-requires
-    returns
-    returns-2)
+    (tie.spec (λ c κs. search needs) (λ c. search needs) (λ c. search needs) count-objects-requires returns returns-2)

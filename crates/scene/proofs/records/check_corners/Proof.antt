@@ -5,7 +5,7 @@ use borrow.Author.Needs.{needs}
 use borrow.Author.Tests.{not-true, not-false}
 use Rattle.scene.proofs.RecordLaws.{corners-many, corners-past, corners-numbers, corners-good}
 use Rattle.scene.specs.Answers.{endOf}
-use Rattle.scene.specs.Scene.{countsAt}
+use Rattle.fields.specs.Fields.{countsAt}
 use Rattle.scene.proofs.records.check_corners.Statement.{statement}
 use Rattle.scene.proofs.records.check_corners.Tie as tie
 

@@ -7,7 +7,8 @@ use Rattle.object.specs.Object.{sweep, roundSweep}
 use Rattle.object.specs.declared.Extent.the-variants.{Box, Cylinder, Unsized}
 use Rattle.scene.proofs.RecordLaws.{kind-other}
 use Rattle.scene.specs.Answers.{endOf}
-use Rattle.scene.specs.Scene.{f32At, kindAt}
+use Rattle.fields.specs.Fields.{f32At}
+use Rattle.scene.specs.Scene.{kindAt}
 use Rattle.scene.proofs.records.check_kind.Statement.{statement}
 use Rattle.scene.proofs.records.check_kind.Tie as tie
 

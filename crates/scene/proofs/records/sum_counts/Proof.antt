@@ -6,7 +6,7 @@ use borrow.Author.Needs.{needs}
 use Rattle.lists.proofs.Tests.{sum-start, sum-next, sum-end}
 use Rattle.lists.specs.Loops.{list, sumOf}
 use Rattle.scene.proofs.RecordLaws.{counts-past}
-use Rattle.scene.specs.Scene.{u16At, countsAt}
+use Rattle.fields.specs.Fields.{u16At, countsAt}
 use Rattle.scene.proofs.records.sum_counts.Statement.{statement}
 use Rattle.scene.proofs.records.sum_counts.Tie as tie
 

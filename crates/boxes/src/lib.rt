@@ -1,0 +1,136 @@
+// The faces of a box: `cuboid` of object_mesh.rs.
+ghost use mathlib.Core.Path.{_≡_};
+ghost use mathlib.Core.List.{[], _∷_};
+ghost use Prim.Native.Nat.{ℕ};
+ghost use lib.ListN.{length};
+ghost use Rattle.float.specs.Number.{zerof, onef};
+ghost use Rattle.object.specs.Object.{frame};
+ghost use Rattle.face.specs.Drawing.{drawing, Drew, Room};
+ghost use Rattle.shapes.specs.Shapes.{onAxis, boxPoint, boxFace, boxSides, box};
+ghost use Rattle.boxes.specs.Axes.{axisOf};
+use coords::Point;
+use coords::Vector;
+use face::Tally;
+use object::Orientation;
+
+// A box's place, turn and sizes.
+struct Placed {
+    origin: Point,
+    turn: Orientation,
+    length: f32,
+    width: f32,
+    height: f32,
+}
+
+// An axis of a solid's own frame.
+enum Axis {
+    X,
+    Y,
+    Z,
+}
+
+// The corner at 0 or 1 along each axis, centred across and rising up.
+fn box_point(b: Placed, x: f32, y: f32, z: f32) -> Point
+    ensures { λ r. ⌜ r ≡ boxPoint (b .origin) (b .turn) (b .length) (b .width) (b .height) x y z ⌝ }
+{
+    let origin = b.origin;
+    let turn = b.turn;
+    origin.add(turn.frame((x - 0.5) * b.length, (y - 0.5) * b.width, z * b.height))
+}
+
+// The corner at side along the axis, and at p and q along the two axes after it, going round.
+fn corner(b: Placed, axis: Axis, side: f32, p: f32, q: f32) -> Point
+    ensures { λ r. ⌜ r ≡ onAxis (axisOf axis) side p q (boxPoint (b .origin) (b .turn) (b .length) (b .width) (b .height)) ⌝ }
+{
+    match axis {
+        Axis::X => box_point(b, side, p, q),
+        Axis::Y => box_point(b, q, side, p),
+        Axis::Z => box_point(b, p, q, side),
+    }
+}
+
+// The direction of the axis in the network.
+fn direction(turn: Orientation, axis: Axis) -> Vector
+    ensures { λ r. ⌜ r ≡ onAxis (axisOf axis) onef zerof zerof (frame turn) ⌝ }
+{
+    match axis {
+        Axis::X => turn.frame(1.0, 0.0, 0.0),
+        Axis::Y => turn.frame(0.0, 1.0, 0.0),
+        Axis::Z => turn.frame(0.0, 0.0, 1.0),
+    }
+}
+
+fn box_face(
+    b: Placed,
+    axis: Axis,
+    side: f32,
+    out: Vector,
+    limit: f32,
+    before: u32,
+    t: Tally,
+    vs: &mut [f32],
+    ns: &mut [f32],
+    is: &mut [u32],
+) -> Tally
+    requires { ⌜ Room before t 4 2 ⌝ }
+    ensures { λ r. ⌜ ((part : ℕ) → Drew limit (boxFace (b .origin) (b .turn) (b .length) (b .width) (b .height) (axisOf axis) side out part ∷ []) before (drawing t (now (vs .entry)) (now (ns .entry)) (now (is .entry))) (drawing r (now (vs .exit)) (now (ns .exit)) (now (is .exit)))) ⌝ }
+{
+    let p = corner(b, axis, side, 0.0, 0.0);
+    let q = corner(b, axis, side, 1.0, 0.0);
+    let r = corner(b, axis, side, 1.0, 1.0);
+    let s = corner(b, axis, side, 0.0, 1.0);
+    face::quad(p, q, r, s, out, limit, before, t, vs, ns, is)
+}
+
+// The face along the axis, then the one against it unless the box has no depth here and it lies on
+// the first.
+fn box_sides(
+    b: Placed,
+    axis: Axis,
+    depth: f32,
+    limit: f32,
+    before: u32,
+    t: Tally,
+    vs: &mut [f32],
+    ns: &mut [f32],
+    is: &mut [u32],
+) -> Tally
+    requires { ⌜ Room before t 8 4 ⌝ }
+    ensures { λ r. ⌜ ((part : ℕ) → Drew limit (boxSides (b .origin) (b .turn) (b .length) (b .width) (b .height) (axisOf axis) depth part) before (drawing t (now (vs .entry)) (now (ns .entry)) (now (is .entry))) (drawing r (now (vs .exit)) (now (ns .exit)) (now (is .exit)))) ⌝ }
+{
+    let out = direction(b.turn, axis);
+    let u = box_face(b, axis, 1.0, out, limit, before, t, vs, ns, is);
+    if depth == 0.0 {
+        return u;
+    }
+    box_face(b, axis, 0.0, out.neg(), limit, before, u, vs, ns, is)
+}
+
+// A box centred on the origin in plan and rising from it.
+pub fn cuboid(
+    origin: Point,
+    turn: Orientation,
+    length: f32,
+    width: f32,
+    height: f32,
+    limit: f32,
+    before: u32,
+    t: Tally,
+    vs: &mut [f32],
+    ns: &mut [f32],
+    is: &mut [u32],
+) -> Tally
+    requires { ⌜ Room before t 24 12 ⌝ }
+    ensures { λ r. ⌜ Drew limit (box origin turn length width height) before (drawing t (now (vs .entry)) (now (ns .entry)) (now (is .entry))) (drawing r (now (vs .exit)) (now (ns .exit)) (now (is .exit))) ⌝ }
+{
+    let b = Placed {
+        origin,
+        turn,
+        length,
+        width,
+        height,
+    };
+    let u = box_sides(b, Axis::X, length, limit, before, t, vs, ns, is);
+    let w = box_sides(b, Axis::Y, width, limit, before, u, vs, ns, is);
+    box_sides(b, Axis::Z, height, limit, before, w, vs, ns, is)
+}

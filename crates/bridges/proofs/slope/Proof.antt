@@ -1,0 +1,14 @@
+-- `bridges::slope` meets its contract. Assumes nothing.
+use Prim.Native.Nat.{_-_}
+use borrow.Author.Needs.{needs}
+use Rattle.lid.specs.Bridges.{slopeOf}
+use Rattle.bridges.proofs.slope.Statement.{statement}
+use Rattle.bridges.proofs.slope.Tie as tie
+
+returns : tie.Need-returns
+unfolding slopeOf
+returns c = cc
+
+pub slope-spec : {M : Type 1} → statement M
+slope-spec = tie.close
+    (tie.spec (λ c κs. search needs) (λ c κs. search needs) returns)

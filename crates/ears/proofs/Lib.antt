@@ -1,0 +1,3 @@
+pub mod ClipLaws
+pub mod ClipRun
+pub mod NoteLaws

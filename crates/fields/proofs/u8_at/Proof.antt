@@ -1,0 +1,20 @@
+-- `fields::u8_at` meets its contract. Assumes nothing.
+use mathlib.Core.Path.{sym}
+use borrow.Author.Needs.{needs}
+use Rattle.fields.proofs.Fields.{byte-past}
+use Rattle.fields.proofs.u8_at.Statement.{statement}
+use Rattle.fields.proofs.u8_at.Tie as tie
+
+shared-slice-read-result : tie.Need-shared-slice-read-result
+shared-slice-read-result c = search needs
+
+returns : tie.Need-returns
+returns c = search needs
+
+returns-2 : tie.Need-returns-2
+returns-2 c =
+    let a = c .before .args in
+    sym (byte-past (a .s .now) (a .i) (c .if1 .left))
+
+pub u8-at-spec : {M : Type 1} → statement M
+u8-at-spec = tie.close (tie.spec shared-slice-read-result returns returns-2)

@@ -1,0 +1,3 @@
+pub mod HoleLaws
+pub mod JoinLaws
+pub mod OrderLaws

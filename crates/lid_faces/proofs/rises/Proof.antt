@@ -1,0 +1,12 @@
+-- `lid_faces::rises` meets its contract. Assumes nothing.
+use Prim.Native.Nat.{_-_}
+use borrow.Author.Needs.{needs}
+use Rattle.lid_faces.proofs.rises.Statement.{statement}
+use Rattle.lid_faces.proofs.rises.Tie as tie
+
+returns : tie.Need-returns
+returns c = rw (c .eq .ensures, c .before .before .before .corner-at .ensures)
+
+pub rises-spec : {M : Type 1} → statement M
+rises-spec = tie.close
+    (tie.spec (λ c κs. search needs) (λ c κs. search needs) returns)

@@ -1,0 +1,105 @@
+// Flat corners by number and by place, the places of a ring, and the turn of three corners.
+ghost use mathlib.Core.Path.{_≡_};
+ghost use Prim.Native.Nat.{_+_, _-_, _<_};
+ghost use lib.ListN.{length, getD, take};
+ghost use Rattle.lists.specs.Loops.{next, previous, removeAt};
+ghost use Rattle.lid.specs.Rings.{flats, corner, turn};
+ghost use Rattle.lid.specs.Steps.{cornerOf, cornersOf};
+use lid::CornerNumber;
+use lid::Corners;
+use lid::Flat;
+use lid::RingPlace;
+
+// The flat corner with a number, whose coordinates two slices hold; zeros past the last corner.
+pub fn flat_at(us: &[f32], vs: &[f32], c: CornerNumber) -> Flat
+    ensures { λ r. ⌜ r ≡ corner (flats (now (us .entry)) (now (vs .entry))) (c .0) ⌝ }
+{
+    let i = c.0 as usize;
+    if i < us.len() {
+        if i < vs.len() {
+            return Flat { u: us[i], v: vs[i] };
+        }
+        return Flat { u: us[i], v: 0.0 };
+    }
+    Flat { u: 0.0, v: 0.0 }
+}
+
+// The corner number at a place of a ring, 0 past the end.
+pub fn number_at(ring: &[u32], at: RingPlace) -> CornerNumber
+    ensures { λ r. ⌜ r ≡ cornerOf (getD (now (ring .entry)) (at .0) 0) ⌝ }
+{
+    let i = at.0;
+    if i < ring.len() {
+        return CornerNumber(ring[i]);
+    }
+    CornerNumber(0)
+}
+
+// The flat corner at a place of a ring.
+pub fn flat_of(us: &[f32], vs: &[f32], ring: &[u32], at: RingPlace) -> Flat
+    requires { ⌜ at .0 < length (now ring) ⌝ }
+    ensures { λ r. ⌜ r ≡ corner (flats (now (us .entry)) (now (vs .entry))) (getD (now (ring .entry)) (at .0) 0) ⌝ }
+{
+    let i = at.0;
+    flat_at(us, vs, CornerNumber(ring[i]))
+}
+
+// Twice the area of a, b, c, above 0 where they turn left at b, each operation rounded.
+pub fn turn(a: Flat, b: Flat, c: Flat) -> f32
+    ensures { λ r. ⌜ r ≡ turn a b c ⌝ }
+{
+    (b.u - a.u) * (c.v - a.v) - (b.v - a.v) * (c.u - a.u)
+}
+
+// The place before, in a ring of n places.
+pub fn place_before(n: usize, at: RingPlace) -> RingPlace
+    requires { ⌜ at .0 < n ⌝ }
+    ensures { λ r. ⌜ (r .0 ≡ previous n (at .0)) × (r .0 < n) ⌝ }
+{
+    let i = at.0;
+    if i == 0 {
+        return RingPlace(n - 1);
+    }
+    RingPlace(i - 1)
+}
+
+// The place after, in a ring of n places.
+pub fn place_after(n: usize, at: RingPlace) -> RingPlace
+    requires { ⌜ at .0 < n ⌝ }
+    ensures { λ r. ⌜ (r .0 ≡ next n (at .0)) × (r .0 < n) ⌝ }
+{
+    let i = at.0;
+    if i + 1 == n {
+        return RingPlace(0);
+    }
+    RingPlace(i + 1)
+}
+
+// The corners before, at and after a place.
+pub fn corners_at(ring: &[u32], at: RingPlace) -> Corners
+    requires { ⌜ at .0 < length (now ring) ⌝ }
+    ensures { λ r. ⌜ r ≡ cornersOf (now (ring .entry)) (at .0) ⌝ }
+{
+    let n = ring.len();
+    let h = place_before(n, at).0;
+    let i = at.0;
+    let j = place_after(n, at).0;
+    Corners {
+        a: CornerNumber(ring[h]),
+        b: CornerNumber(ring[i]),
+        c: CornerNumber(ring[j]),
+    }
+}
+
+// Takes the corner at a place out of a ring: those behind it move down, and the last place keeps its number.
+pub fn remove(ring: &mut [u32], at: RingPlace)
+    requires { ⌜ at .0 < length (now ring) ⌝ }
+    ensures { λ _. ⌜ take (length (now (ring .entry)) - 1) (now (ring .exit)) ≡ removeAt (at .0) (now (ring .entry)) ⌝ }
+{
+    let mut j = at.0;
+    let last = ring.len() - 1;
+    while j < last {
+        ring[j] = ring[j + 1];
+        j += 1;
+    }
+}

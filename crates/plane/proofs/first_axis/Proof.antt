@@ -1,0 +1,15 @@
+-- `plane::first_axis` meets its contract. Assumes nothing.
+use Prim.Native.Nat.{_-_}
+use borrow.Author.Needs.{needs}
+use Rattle.lid.specs.Plane.{firstAxis}
+use Rattle.plane.proofs.first_axis.Statement.{statement}
+use Rattle.plane.proofs.first_axis.Tie as tie
+
+returns : tie.Need-returns
+unfolding firstAxis
+returns c = rw (c .normalize-or-zero .ensures, c .before .sub .ensures, c .before .before .scale .ensures, c .before .before .before .dot .ensures, c .before .before .before .before .axis-across .ensures)
+
+pub first-axis-spec : {M : Type 1} → statement M
+first-axis-spec =
+    tie.close
+    (tie.spec (λ c κs. search needs) (λ c κs. search needs) (λ c κs. search needs) (λ c κs. search needs) (λ c κs. search needs) returns)

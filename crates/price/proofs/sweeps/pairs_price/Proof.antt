@@ -1,0 +1,38 @@
+-- `price::sweeps::pairs_price` meets its contract: the sum is the price of the pairs up to section k. Assumes nothing.
+use mathlib.Core.Path.{_≡_, refl, ap, _∙_}
+use Prim.Native.Nat.{ℕ, _+_, _-_, _*_, _≤_, _<_}
+use native.Mathlib.Omega.{arith}
+use borrow.Author.Needs.{needs}
+use Rattle.lists.specs.Loops.{list}
+use Rattle.fields.specs.Fields.{sectionAt, sectionsAt}
+use Rattle.shapes.specs.Price.{pairsPrice}
+use Rattle.price.proofs.SweepPrices.{price-next}
+use Rattle.price.proofs.sweeps.pairs_price.Statement.{statement}
+use Rattle.price.proofs.sweeps.pairs_price.Tie as tie
+
+abbrev Inv-loop : tie.InvT-loop
+Inv-loop s at n a₀ sum₀ k₀ a sum k =
+    (k < n) × (a ≡ sectionAt s (at + 48 * k)) × (sum ≡ pairsPrice (sectionsAt s (k + 1) at)) × (sum ≤ 8 * k)
+
+abbrev μ-loop : tie.MeasureT-loop
+μ-loop s at n a₀ sum₀ k₀ a sum k = n - k
+
+loop-holds : tie.Need-loop-holds Inv-loop μ-loop
+unfolding pairsPrice sectionsAt list
+loop-holds c = let a = c .before .before .args in let e : a .at ≡ a .at + 48 * 0 = omega arith in (c .before .before .pre .0, c .section-at .ensures ∙ ap (λ (p : ℕ). sectionAt (a .s .now) p) e, refl, omega arith)
+
+add-sum : tie.Need-add-sum Inv-loop μ-loop
+add-sum c = omega (arith, c .pair-price .ensures .1)
+
+loop-again : tie.Need-loop-again Inv-loop μ-loop
+unfolding sectionsAt
+loop-again c = let a = c .before .before .before .before .before .before .args in let l = c .before .before .before .loop in (c .before .before .loop-test .taken, c .before .section-at2 .ensures, price-next (λ k. sectionAt (a .s .now) (a .at + 48 * k)) (l .k) (l .inv .2) (l .inv .1) (c .before .section-at2 .ensures) (c .pair-price .ensures .0), omega (arith, c .pair-price .ensures .1))
+
+returns : tie.Need-returns Inv-loop μ-loop
+returns c = let l = c .before .loop in let e : l .k + 1 ≡ c .before .before .before .before .args .n = omega arith in (rw e at (l .inv .2), omega arith)
+
+pub pairs-price-spec : {M : Type 1} → statement M
+pairs-price-spec =
+    tie.close
+    (tie.spec Inv-loop μ-loop (λ c κs. search needs) loop-holds (λ c. omega arith) (λ c. omega arith) (λ c. omega arith) (λ c. omega arith)
+    (λ c κs. search needs) (λ c κs. search needs) add-sum (λ c. omega arith) (λ c. omega arith) loop-again returns)

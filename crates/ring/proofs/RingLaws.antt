@@ -1,0 +1,135 @@
+-- Rings filled in place, and the folds and tests over their corners, as the code's loops meet them. Assumes nothing.
+use mathlib.Core.Path.{_≡_, refl, sym, ap, _∙_}
+use mathlib.Core.Bool.{Bool, true, false, _||_, Bool·beq, cond}
+use mathlib.Core.List.{List, [], _∷_, _++_, append-assoc, append-nil, reverse, reverse-append}
+use Prim.Native.Nat.{ℕ, zero, suc, _+_, _-_, _<_, _≤_}
+use native.Mathlib.Nat.{add-zero}
+use native.Mathlib.Numerals.{add-one}
+use native.Mathlib.Omega.{arith}
+use lib.ListN.{length, getD, take, drop, set, drop-of-length-le}
+use lib.Seq.{take-suc-set, take-all, drop-cons}
+use lib.Dec.{ltb}
+use lib.Ieee.{Float, lt}
+use Rattle.lists.specs.Loops.{list, fold, every}
+use Rattle.lists.proofs.Lists.{length-list}
+use Rattle.float.specs.Number.{zerof, minArea}
+use Rattle.float.specs.Signs.{magnitude}
+use Rattle.lid.specs.declared.Flat.{Flat}
+use Rattle.lid.specs.Rings.{area, tooSmall, turnOuter, turnHole}
+use Rattle.lid.specs.Steps.{turned}
+
+-- a list filled from the front: one more element, and the end
+pub fill-next : {A : Type 0} (l : List A) (k : ℕ) (v : A) (more all : List A) → k < length l → take k l ++ v ∷ more ≡ all → take (k + 1) (set l k v) ++ more ≡ all
+fill-next {A} l k v more all h e =
+    ap (λ (r : List A). r ++ more) (ap (λ (n : ℕ). take n (set l k v)) (add-one k) ∙ take-suc-set l k v h)
+    ∙ append-assoc (take k l) (v ∷ []) more
+    ∙ e
+
+pub fill-end : {A : Type 0} (l : List A) (k : ℕ) (all : List A) → length l ≤ k → take k l ++ [] ≡ all → l ≡ all
+fill-end l k all h e = sym (take-all k l h) ∙ sym (append-nil (take k l)) ∙ e
+
+-- the numbers from v on, and from below v down
+abbrev pub up : ℕ → ℕ → List ℕ
+up v n = list (λ i. i) n v
+
+unfoldable pub down : ℕ → ℕ → List ℕ
+down v zero = []
+down v (suc n) = (v - 1) ∷ down (v - 1) n
+
+pub up-step : (v n k : ℕ) → k < n → v ∷ up (v + 1) (n - (k + 1)) ≡ up v (n - k)
+unfolding list
+up-step v n k h =
+    let e : n - k ≡ suc (n - (k + 1)) = omega arith in
+    let one : v + 1 ≡ suc v = add-one v in
+    rw (e, one)
+
+pub up-end : (v n k : ℕ) → n ≤ k → [] ≡ up v (n - k)
+unfolding list
+up-end v n k h = let e : n - k ≡ 0 = omega arith in rw e
+
+pub down-step : (v n k : ℕ) → k < n → (v - 1) ∷ down (v - 1) (n - (k + 1)) ≡ down v (n - k)
+unfolding down
+down-step v n k h = let e : n - k ≡ suc (n - (k + 1)) = omega arith in rw e
+
+pub down-end : (v n k : ℕ) → n ≤ k → [] ≡ down v (n - k)
+unfolding down
+down-end v n k h = let e : n - k ≡ 0 = omega arith in rw e
+
+up-snoc : (v n : ℕ) → up v (suc n) ≡ up v n ++ ((v + n) ∷ [])
+unfolding list
+up-snoc v zero = ap (λ (k : ℕ). k ∷ []) (sym (add-zero v))
+up-snoc v (suc n) = ap (λ (r : List ℕ). v ∷ r) (up-snoc (suc v) n ∙ ap (λ (k : ℕ). up (suc v) n ++ (k ∷ [])) (shift v n))
+  where
+    shift : (v n : ℕ) → suc v + n ≡ v + suc n
+    shift v n = omega arith
+
+-- a ring turned is the ring numbered downwards
+pub reverse-up : (v n : ℕ) → down (v + n) n ≡ reverse (up v n)
+unfolding down
+reverse-up v zero = unfold list in refl
+reverse-up v (suc n) =
+    let e : v + suc n - 1 ≡ v + n = omega arith in
+    rw e (ap (λ (r : List ℕ). (v + n) ∷ r) (reverse-up v n) ∙ sym (reverse-append (up v n) ((v + n) ∷ [])) ∙ ap reverse (sym (up-snoc v n)))
+
+-- ---- a fold over the elements from k on: at the start it is the whole, by computation; one element; the end
+
+module _ {A S : Type 0} (f : S → A → S) (l : List A) (k : ℕ) where
+  pub fold-next : (d : A) (s s′ t : S) → k < length l → s′ ≡ f s (getD l k d) → fold f s (drop k l) ≡ t → fold f s′ (drop (k + 1) l) ≡ t
+  unfolding fold
+  fold-next d s s′ t h e p = rw (add-one, e) (rw (drop-cons l k d) at p)
+
+  pub fold-end : (s t : S) → length l ≤ k → fold f s (drop k l) ≡ t → s ≡ t
+  unfolding fold
+  fold-end s t h p = rw (drop-of-length-le l h) at p
+
+-- ---- a test of the elements from k on
+
+module _ {A : Type 0} (p : A → Bool) (l : List A) (k : ℕ) where
+  pub every-next : (d : A) (t : Bool) → k < length l → p (getD l k d) ≡ true → every p (drop k l) ≡ t → every p (drop (k + 1) l) ≡ t
+  unfolding every
+  every-next d t h e q = rw add-one (rw (drop-cons l k d, e) at q)
+
+  pub every-end : (t : Bool) → length l ≤ k → every p (drop k l) ≡ t → true ≡ t
+  unfolding every
+  every-end t h q = rw (drop-of-length-le l h) at q
+
+-- ---- a ring written and turned
+
+pick : {A : Type 0} (outer b : Bool) (x y : A) → Bool·beq b outer ≡ true → x ≡ cond outer (cond b x y) (cond b y x)
+pick true true x y h = refl
+pick false false x y h = refl
+pick true false x y h = cc
+pick false true x y h = cc
+
+leave : {A : Type 0} (outer b : Bool) (x y : A) → Bool·beq b outer ≡ false → y ≡ cond outer (cond b x y) (cond b y x)
+leave true true x y h = cc
+leave false false x y h = cc
+leave true false x y h = refl
+leave false true x y h = refl
+
+module _ (fs : List Flat) (outer : Bool) (ring : List ℕ) where
+  pub turned-back : Bool·beq (lt (area fs ring) zerof) outer ≡ true → reverse ring ≡ turned outer fs ring
+  unfolding turnOuter turnHole
+  turned-back h = pick outer (lt (area fs ring) zerof) (reverse ring) ring h
+
+  pub turned-not : Bool·beq (lt (area fs ring) zerof) outer ≡ false → ring ≡ turned outer fs ring
+  unfolding turnOuter turnHole
+  turned-not h = leave outer (lt (area fs ring) zerof) (reverse ring) ring h
+
+-- what `write_ring` answers and leaves, where it wrote `ring`, of area a and of absolute area b
+module _ (fs : List Flat) (outer : Bool) (from n : ℕ) (ring : List ℕ) (a : Float) (wrote : ring ≡ up from n) (sized : a ≡ area fs ring) where
+  pub ring-small : (b : Float) → b ≡ magnitude a → (ltb (length ring) 3 || lt b minArea) ≡ tooSmall fs (up from n)
+  unfolding tooSmall
+  ring-small b e = rw (e, sized, wrote)
+
+  pub ring-back : (x : List ℕ) → Bool·beq (lt a zerof) outer ≡ true → x ≡ reverse (up (from + length ring - length ring) (length ring)) → x ≡ turned outer fs (up from n)
+  ring-back x h e =
+      let same : from + length ring - length ring ≡ from = omega arith in
+      let long : length ring ≡ n = ap length wrote ∙ length-list (λ i. i) n from in
+      let test : Bool·beq (lt (area fs (up from n)) zerof) outer ≡ true = rw (sized, wrote) at h in
+      e ∙ rw (same, long) (turned-back fs outer (up from n) test)
+
+  pub ring-kept : Bool·beq (lt a zerof) outer ≡ false → ring ≡ turned outer fs (up from n)
+  ring-kept h =
+      let test : Bool·beq (lt (area fs (up from n)) zerof) outer ≡ false = rw (sized, wrote) at h in
+      wrote ∙ turned-not fs outer (up from n) test

@@ -1,0 +1,11 @@
+-- `sweeps::wall` meets its contract. Assumes nothing.
+use Prim.Native.Nat.{_-_}
+use borrow.Author.Needs.{needs}
+use Rattle.sweeps.proofs.wall.Statement.{statement}
+use Rattle.sweeps.proofs.wall.Tie as tie
+
+returns : tie.Need-returns
+returns c = c .before .before .before .before .before .before .quad .ensures 1
+
+pub wall-spec : {M : Type 1} → statement M
+wall-spec = tie.close (tie.spec (λ c κs. search needs) (λ c. search needs) (λ c. search needs) (λ c. search needs) returns)

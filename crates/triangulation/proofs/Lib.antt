@@ -1,0 +1,2 @@
+pub mod LidLaws
+pub mod Limits

@@ -1,0 +1,3 @@
+pub mod Drawings
+pub mod CornerLaws
+pub mod WallLaws
