@@ -1,6 +1,7 @@
 //! Times the original Rust and the linked library on the same scenes, in turn.
 
 mod building;
+mod cutting;
 mod memory;
 mod outlines;
 mod reading;
@@ -30,6 +31,7 @@ fn main() -> ExitCode {
     };
     timing::keep_memory();
     building::table(only);
+    cutting::table(only);
     reading::table(only);
     validating::table(only);
     memory::table(only);

@@ -38,10 +38,16 @@ pub mod object_mesh {
 }
 mod plain {
     include!(concat!(env!("OUT_DIR"), "/plain.rs"));
+
+    /// The original's `triangulate`, which is private there.
+    pub fn cut(flat: &[[f32; 2]], starts: &[usize]) -> Vec<[usize; 3]> {
+        triangulate(flat, starts)
+    }
 }
 
 pub use built::{build, Built};
 pub use families::generate;
 pub use network::Object;
+pub use plain::cut;
 pub use scene::read_scene;
 pub use verdict::validate;
