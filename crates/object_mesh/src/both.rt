@@ -6,12 +6,12 @@ ghost use Rattle.object.specs.Object.{Object};
 ghost use Rattle.scene.specs.Scene.{scene, accepted};
 ghost use Rattle.scene_mesh.specs.Operations.{countsOf, measure, build};
 ghost use Rattle.pass.specs.Pass.{lent};
-ghost use Rattle.object_mesh.specs.Answers.{builtAnswer, builtWith, buildAndValidate};
+ghost use Rattle.answers.specs.Answers.{builtAnswer, builtWith, buildAndValidate};
 ghost use Rattle.scene_mesh.specs.Demand3.{LongEnough, measured, Demand3Of};
-use crate::answers::JudgedBuild;
-use crate::answers::counts;
-use crate::answers::wide;
-use crate::build::build;
+use answers::JudgedBuild;
+use answers::counts;
+use answers::wide;
+use build::build;
 
 pub fn build_and_validate(
     s: &[u8],

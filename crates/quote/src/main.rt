@@ -3,11 +3,11 @@
 ghost use mathlib.Core.Path.{_≡_};
 ghost use Prim.Native.Nat.{_+_, _≤_};
 ghost use lib.ListN.{length};
+use answers::BuiltAnswer;
 use libc::STDIN_FILENO;
 use libc::STDOUT_FILENO;
 use mesh::Validation;
 use mesh::Verdict;
-use object_mesh::answers::BuiltAnswer;
 use pass::Counted;
 
 fn write(text: &[u8]) {

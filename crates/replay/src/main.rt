@@ -5,10 +5,10 @@
 ghost use mathlib.Core.Path.{_≡_};
 ghost use Prim.Native.Nat.{_≤_};
 ghost use lib.ListN.{length};
+use answers::BuiltAnswer;
 use libc::STDOUT_FILENO;
 use mesh::Validation;
 use mesh::Verdict;
-use object_mesh::answers::BuiltAnswer;
 use pass::Counted;
 
 enum Next {

@@ -2,7 +2,7 @@
 use mathlib.Core.Path.{sym, ap, _∙_}
 use lib.Seq.{length-take-le}
 use borrow.Author.Needs.{needs}
-use Rattle.object_mesh.proofs.Calls.{vertices-fit, indices-fit, both-are, demand3-built}
+use Rattle.answers.proofs.Calls.{vertices-fit, indices-fit, both-are, demand3-built}
 use Rattle.scene_mesh.specs.Operations.{Counts}
 use Rattle.object_mesh.proofs.both.build_and_validate.Statement.{statement}
 use Rattle.object_mesh.proofs.both.build_and_validate.Tie as tie

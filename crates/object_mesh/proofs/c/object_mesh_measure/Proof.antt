@@ -1,7 +1,7 @@
 -- `object_mesh::c::object_mesh_measure` meets its contract. Assumes nothing.
 use mathlib.Core.Path.{ap, _∙_}
 use borrow.Author.Needs.{needs}
-use Rattle.object_mesh.specs.Answers.{answerNumbers}
+use Rattle.answers.specs.Answers.{answerNumbers}
 use Rattle.object_mesh.proofs.c.object_mesh_measure.Statement.{statement}
 use Rattle.object_mesh.proofs.c.object_mesh_measure.Tie as tie
 

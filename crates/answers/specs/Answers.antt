@@ -1,0 +1,65 @@
+-- What the operations answer, by the enums of src/answers.rt: document 01's number and values for each case.
+use mathlib.Core.Path.{_≡_}
+use Prim.Native.Nat.{ℕ, _*_}
+use mathlib.Core.Bool.{_||_, cond}
+use mathlib.Core.List.{List}
+use lib.ListN.{take}
+use lib.Seq.{sets}
+use lib.Dec.{ltb}
+use lib.Ieee.{Float}
+use Rattle.object.specs.Object.{Object}
+use Rattle.scene.specs.Scene.{numberOf}
+use Rattle.mesh.specs.declared.Validation.{Validation}
+use Rattle.mesh.specs.Validate.{validate}
+use Rattle.pass.specs.declared.Counted.{Counted}
+use Rattle.answers.specs.declared.Measured.{Measured}
+use Rattle.answers.specs.declared.Measured.the-variants.{Refused as NotMeasured, Counts as CountsAre}
+use Rattle.answers.specs.declared.BuiltAnswer.{BuiltAnswer}
+use Rattle.answers.specs.declared.BuiltAnswer.the-variants.{Refused, ShortVertices, ShortIndices, ShortRecords, Complete}
+use Rattle.answers.specs.declared.Answer.{Answer as CAnswer}
+use Rattle.pass.specs.Wrote.{countsFrom}
+use Rattle.scene_mesh.specs.Operations.{Counts, Answer, Buffers, Built, refusedWith, output, countsOf, build}
+
+-- a call that is not refused
+abbrev pub accepts : Counted → Answer
+accepts c = record { number = 0; object = 0; counts = countsFrom c }
+
+abbrev pub measuredAnswer : Measured → Answer
+measuredAnswer (NotMeasured f object) = refusedWith (numberOf f) object
+measuredAnswer (CountsAre c) = accepts c
+
+abbrev pub builtAnswer : BuiltAnswer → Answer
+builtAnswer (Refused f object) = refusedWith (numberOf f) object
+builtAnswer ShortVertices = refusedWith 8 0
+builtAnswer ShortIndices = refusedWith 9 0
+builtAnswer ShortRecords = refusedWith 10 0
+builtAnswer (Complete c) = accepts c
+
+-- an answer of Build and what the buffers hold
+abbrev pub builtWith : BuiltAnswer → Buffers → Built
+builtWith r b = record { answer = builtAnswer r; buffers = b }
+
+-- as the C functions give it
+abbrev pub answerNumbers : Answer → CAnswer
+answerNumbers a =
+    record { refusal = a .number; object = a .object; vertices = a .counts .vertices; normals = a .counts .normals; indices = a .counts .indices; spans = a .counts .spans; account = a .counts .account; log = a .counts .log }
+
+-- the first buffer that is too short, or Complete
+unfoldable pub roomFor : Counts → Counted → BuiltAnswer
+roomFor has needs =
+    cond (ltb (has .vertices) (needs .vertices) || ltb (has .normals) (needs .normals)) ShortVertices
+    (cond (ltb (has .indices) (needs .indices)) ShortIndices
+    (cond (ltb (has .spans) (needs .spans) || ltb (has .account) (needs .account) || ltb (has .log) (needs .log)) ShortRecords
+    (Complete needs)))
+
+-- Build, and then Validate on the measured first part of the buffers: nothing of them where Build is refused
+pub record BuiltAndJudged : Type 0 where
+  pub built : Built
+  pub validation : Validation
+
+unfoldable pub judged : Built → BuiltAndJudged
+judged r =
+    record { built = r; validation = validate (take (r .answer .counts .vertices) (r .buffers .vertices)) (take (r .answer .counts .indices) (r .buffers .indices)) }
+
+unfoldable pub buildAndValidate : List ℕ → Buffers → BuiltAndJudged
+buildAndValidate bytes b = judged (build bytes b)
