@@ -1,5 +1,5 @@
 #!/usr/bin/env python3
-"""Writes stored scenes and the Rust's answers as the lists at the end of crates/known/specs/Examples.antt.
+"""Writes stored scenes and the Rust's answers as the lists at the end of crates/examples/specs/Examples.antt.
 
   compare/examples.py ANSWERS          prints these lists
 

@@ -1,4 +1,4 @@
--- What the operations answer, by the enums of src/answers.rt: document 01's number and values for each case.
+-- What the operations answer, by the enums of src/lib.rt: document 01's number and values for each case.
 use mathlib.Core.Path.{_≡_}
 use Prim.Native.Nat.{ℕ, _*_}
 use mathlib.Core.Bool.{_||_, cond}

@@ -9,9 +9,9 @@ ghost use Rattle.face.specs.Drawing.{drawing, Drew, Room};
 ghost use Rattle.shapes.specs.Shapes.{onAxis, boxPoint, boxFace, boxSides, box};
 ghost use Rattle.boxes.specs.Axes.{axisOf};
 use coords::Point;
-use coords::Vector;
 use face::Tally;
 use object::Orientation;
+use vectors::Vector;
 
 // A box's place, turn and sizes.
 struct Placed {

@@ -30,7 +30,7 @@ fn rightmost_step(us: &[f32], vs: &[f32], hole: &[u32], at: RingPlace, best: Rin
 {
     let a = flat_of(us, vs, hole, at);
     let b = flat_of(us, vs, hole, best);
-    if float::total_less(a.u, b.u) {
+    if signs::total_less(a.u, b.u) {
         return best;
     }
     at
@@ -125,7 +125,7 @@ fn inside(m: Flat, i: Flat, p: Flat, s: f32, r: Flat) -> bool
 fn slope(m: Flat, r: Flat) -> f32
     ensures { λ q. ⌜ q ≡ slopeOf m r ⌝ }
 {
-    float::abs(r.v - m.v) / float::max(r.u - m.u, MIN_POSITIVE)
+    signs::abs(r.v - m.v) / signs::max(r.u - m.u, MIN_POSITIVE)
 }
 
 // The shallowest slope so far, with the corner at one more place.
@@ -157,7 +157,7 @@ fn ray_to(us: &[f32], vs: &[f32], ring: &[u32], m: Flat, i: Flat, target: RingPl
 {
     let end = number_at(ring, target);
     let p = flat_at(us, vs, end);
-    let s = float::signum(turn(m, i, p));
+    let s = signs::signum(turn(m, i, p));
     Ray { m, i, end, s }
 }
 

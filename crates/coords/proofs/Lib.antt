@@ -4,4 +4,3 @@ pub mod Turned
 pub mod Lengths
 pub mod Triangles
 pub mod Buffers
-pub mod Squares

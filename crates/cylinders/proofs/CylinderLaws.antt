@@ -9,7 +9,7 @@ use Rattle.lists.specs.Loops.{list, sumOf, next}
 use Rattle.lists.proofs.Lists.{getD-any}
 use Rattle.float.specs.Number.{zerof}
 use Rattle.coords.specs.declared.Point.{Point}
-use Rattle.coords.specs.declared.Vector.{Vector}
+use Rattle.vectors.specs.declared.Vector.{Vector}
 use Rattle.coords.specs.Coords.{origin}
 use Rattle.circle.specs.Circle.{sideAngle, sine, cosine}
 use Rattle.object.specs.declared.Orientation.{Orientation}

@@ -4,7 +4,7 @@ use mathlib.Core.List.{List, [], _∷_}
 use lib.Ieee.{Float, lt}
 use Rattle.float.specs.Number.{zerof, onef}
 use Rattle.coords.specs.declared.Point.{Point}
-use Rattle.coords.specs.Coords.{negate}
+use Rattle.vectors.specs.Vectors.{negate}
 use Rattle.object.specs.declared.Orientation.{Orientation}
 use Rattle.object.specs.Object.{frame}
 use Rattle.face.specs.Faces.{Face}

@@ -31,7 +31,7 @@ fn is_straight(us: &[f32], vs: &[f32], ring: &[u32], at: RingPlace) -> bool
     let a = flat_at(us, vs, t.a);
     let b = flat_at(us, vs, t.b);
     let c = flat_at(us, vs, t.c);
-    float::abs(turn(a, b, c)) < MIN_AREA
+    signs::abs(turn(a, b, c)) < MIN_AREA
 }
 
 // The first place on a straight run.

@@ -8,7 +8,7 @@ use lib.Ieee.{Float}
 use Rattle.lists.specs.Each.{Each}
 use Rattle.lists.specs.Loops.{list}
 use Rattle.coords.specs.declared.Point.{Point}
-use Rattle.coords.specs.declared.Vector.{Vector}
+use Rattle.vectors.specs.declared.Vector.{Vector}
 use Rattle.coords.specs.Buffers.{vertexNumbers, verticesIn}
 use Rattle.coords.proofs.Buffers.{vertices-size, vertices-back}
 use Rattle.face.specs.declared.Tally.{Tally}

@@ -6,8 +6,8 @@ ghost use Rattle.coords.specs.Buffers.{vertexNumbers};
 ghost use Rattle.face.specs.Drawing.{drawing, Drew, Room};
 ghost use Rattle.shapes.specs.Shapes.{endFace};
 use coords::Point;
-use coords::Vector;
 use face::Tally;
+use vectors::Vector;
 
 // The sixteen points of a ring.
 type RingPoints = [Point; 16];

@@ -13,7 +13,7 @@ use Rattle.lists.specs.Each.{Each}
 use Rattle.lists.proofs.Lists.{each-at, getD-list, length-list}
 use Rattle.lists.proofs.Stores.{sets-append}
 use Rattle.coords.specs.declared.Point.{Point}
-use Rattle.coords.specs.declared.Vector.{Vector}
+use Rattle.vectors.specs.declared.Vector.{Vector}
 use Rattle.face.specs.declared.Side.{Side}
 use Rattle.face.specs.declared.Side.the-variants.{Thin, Front, Back}
 use Rattle.face.specs.declared.Sum.{Sum}

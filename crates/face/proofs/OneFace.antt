@@ -10,8 +10,8 @@ use lib.Ieee.{Float}
 use Rattle.lists.specs.Loops.{join, sumOf}
 use Rattle.lists.proofs.Lists.{length-list}
 use Rattle.lists.proofs.Buffers.{threes-back}
-use Rattle.coords.specs.declared.Vector.{Vector}
-use Rattle.coords.specs.Coords.{unitZ, normalizeOr}
+use Rattle.vectors.specs.declared.Vector.{Vector}
+use Rattle.vectors.specs.Vectors.{unitZ, normalizeOr}
 use Rattle.coords.specs.Buffers.{vertexNumbers, normalNumbers, verticesIn}
 use Rattle.buffers.proofs.Vertices.{length-vertices}
 use Rattle.face.specs.declared.Tally.{Tally}

@@ -8,8 +8,9 @@ use Rattle.lists.specs.Each.{Each}
 use Rattle.lists.specs.Loops.{list, join, countOf}
 use Rattle.float.specs.Number.{zerof}
 use Rattle.coords.specs.declared.Point.{Point}
-use Rattle.coords.specs.declared.Vector.{Vector}
-use Rattle.coords.specs.Coords.{origin, zeroV, unitZ, diff, plus, less, dot, cross, norm, normalizeOr}
+use Rattle.vectors.specs.declared.Vector.{Vector}
+use Rattle.vectors.specs.Vectors.{zeroV, unitZ, plus, less, dot, cross, norm, normalizeOr}
+use Rattle.coords.specs.Coords.{origin, diff}
 
 -- three corners, each the number of one of the face's points
 pub record Triangle : Type 0 where

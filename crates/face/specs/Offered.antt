@@ -9,8 +9,9 @@ use lib.Ieee.{Float, lt}
 use Rattle.lists.specs.Loops.{list, fold}
 use Rattle.float.specs.Number.{zerof}
 use Rattle.coords.specs.declared.Point.{Point}
-use Rattle.coords.specs.declared.Vector.{Vector}
-use Rattle.coords.specs.Coords.{origin, zeroV, diff, plus, less, dot, cross, norm}
+use Rattle.vectors.specs.declared.Vector.{Vector}
+use Rattle.vectors.specs.Vectors.{zeroV, plus, less, dot, cross, norm}
+use Rattle.coords.specs.Coords.{origin, diff}
 use Rattle.face.specs.declared.Side.{Side}
 use Rattle.face.specs.declared.Side.the-variants.{Thin, Front, Back}
 use Rattle.face.specs.declared.Sum.{Sum}

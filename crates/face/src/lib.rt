@@ -6,12 +6,12 @@ ghost use lib.ListN.{length, replicate};
 ghost use lib.Seq.{sets};
 ghost use Rattle.lists.specs.Each.{Each};
 ghost use Rattle.coords.specs.Buffers.{vertexNumbers, normalNumbers, verticesIn};
-ghost use Rattle.coords.specs.Coords.{unitZ, normalizeOr};
+ghost use Rattle.vectors.specs.Vectors.{unitZ, normalizeOr};
 ghost use Rattle.face.specs.Faces.{triangle, TriangleLow, quad};
 ghost use Rattle.face.specs.Offered.{triangleAt, trianglesIn, sideOf, sideIn, cornersOf, gathered, offered, offerOne, offerAll};
 ghost use Rattle.face.specs.Drawing.{drawing, faceIn, Drew, Room};
 use coords::Point;
-use coords::Vector;
+use vectors::Vector;
 
 // How a triangle lies: thin, or with its cross product, as it faces out or away.
 enum Side {

@@ -1,17 +1,10 @@
 // Numbers at a place of the scene's bytes, little-endian. Past the end every byte counts as 0, as
 // it does for `getD`, so that the readers ask nothing of their callers.
-
-pub mod numbers;
-
 ghost use mathlib.Core.Path.{_≡_};
 ghost use Prim.Native.Nat.{_+_, _≤_};
 ghost use lib.ListN.{length, getD};
-ghost use Rattle.fields.specs.Fields.{u16At, u32At, u64At, f32At, f64At, pointAt, cornerAt, sectionAt, pairAt, orientationAt};
-use coords::Point;
-use object::Corner;
-use object::Orientation;
-use object::Pair;
-use object::Section;
+ghost use lib.Ieee.{binary32, ofBits};
+ghost use Rattle.fields.specs.Fields.{u16At, u32At, u64At, f32At, f64At};
 
 // ---- where the bytes are there
 
@@ -29,16 +22,33 @@ pub fn u32_in(s: &[u8], i: usize) -> u32
     (u16_in(s, i) as u32) + 65536 * (u16_in(s, i + 2) as u32)
 }
 
-pub(crate) fn u64_in(s: &[u8], i: usize) -> u64
+pub fn u64_in(s: &[u8], i: usize) -> u64
     requires { ⌜ i + 8 ≤ length (now s) ⌝ }
     ensures { λ r. ⌜ r ≡ u64At (now (s .entry)) i ⌝ }
 {
     (u32_in(s, i) as u64) + 0x1_0000_0000 * (u32_in(s, i + 4) as u64)
 }
 
+// A NaN's pattern cannot be made a float, so NaN is made by a division.
+fn f32_of(b: u32) -> f32
+    ensures { λ r. ⌜ r ≡ ofBits binary32 b ⌝ }
+{
+    if 0x7f80_0000 < b % 0x8000_0000 {
+        return 0.0 / 0.0;
+    }
+    f32::from_bits(b)
+}
+
+pub fn f32_in(s: &[u8], i: usize) -> f32
+    requires { ⌜ i + 4 ≤ length (now s) ⌝ }
+    ensures { λ r. ⌜ r ≡ f32At (now (s .entry)) i ⌝ }
+{
+    f32_of(u32_in(s, i))
+}
+
 // ---- anywhere
 
-pub(crate) fn u8_at(s: &[u8], i: usize) -> u8
+fn u8_at(s: &[u8], i: usize) -> u8
     ensures { λ r. ⌜ r ≡ getD (now (s .entry)) i 0 ⌝ }
 {
     if i < s.len() { s[i] } else { 0 }
@@ -65,7 +75,7 @@ pub fn u32_at(s: &[u8], i: usize) -> u32
     (u16_at(s, i) as u32) + 65536 * (u16_at(s, i + 2) as u32)
 }
 
-pub(crate) fn u64_at(s: &[u8], i: usize) -> u64
+fn u64_at(s: &[u8], i: usize) -> u64
     ensures { λ r. ⌜ r ≡ u64At (now (s .entry)) i ⌝ }
 {
     if s.len() <= i {
@@ -77,18 +87,13 @@ pub(crate) fn u64_at(s: &[u8], i: usize) -> u64
     (u32_at(s, i) as u64) + 0x1_0000_0000 * (u32_at(s, i + 4) as u64)
 }
 
-// A NaN's pattern cannot be made a float, so NaN is made by a division.
 pub fn f32_at(s: &[u8], i: usize) -> f32
     ensures { λ r. ⌜ r ≡ f32At (now (s .entry)) i ⌝ }
 {
-    let b = u32_at(s, i);
-    if 0x7f80_0000 < b % 0x8000_0000 {
-        return 0.0 / 0.0;
-    }
-    f32::from_bits(b)
+    f32_of(u32_at(s, i))
 }
 
-pub(crate) fn f64_at(s: &[u8], i: usize) -> f64
+pub fn f64_at(s: &[u8], i: usize) -> f64
     ensures { λ r. ⌜ r ≡ f64At (now (s .entry)) i ⌝ }
 {
     let b = u64_at(s, i);
@@ -96,84 +101,4 @@ pub(crate) fn f64_at(s: &[u8], i: usize) -> f64
         return 0.0 / 0.0;
     }
     f64::from_bits(b)
-}
-
-// ---- structs of them; past the end they are zeros
-
-const ORIGIN: Point = Point {
-    x: 0.0,
-    y: 0.0,
-    z: 0.0,
-};
-
-pub fn point_at(s: &[u8], i: usize) -> Point
-    ensures { λ r. ⌜ r ≡ pointAt (now (s .entry)) i ⌝ }
-{
-    if s.len() <= i {
-        return ORIGIN;
-    }
-    Point {
-        x: f32_at(s, i),
-        y: f32_at(s, i + 4),
-        z: f32_at(s, i + 8),
-    }
-}
-
-pub fn corner_at(s: &[u8], i: usize) -> Corner
-    ensures { λ r. ⌜ r ≡ cornerAt (now (s .entry)) i ⌝ }
-{
-    if s.len() <= i {
-        return Corner {
-            base: ORIGIN,
-            top: ORIGIN,
-        };
-    }
-    Corner {
-        base: point_at(s, i),
-        top: point_at(s, i + 12),
-    }
-}
-
-pub fn section_at(s: &[u8], i: usize) -> Section
-    ensures { λ r. ⌜ r ≡ sectionAt (now (s .entry)) i ⌝ }
-{
-    if s.len() <= i {
-        return Section {
-            left: corner_at(s, i),
-            right: corner_at(s, i),
-        };
-    }
-    Section {
-        left: corner_at(s, i),
-        right: corner_at(s, i + 24),
-    }
-}
-
-pub(crate) fn pair_at(s: &[u8], i: usize) -> Pair
-    ensures { λ r. ⌜ r ≡ pairAt (now (s .entry)) i ⌝ }
-{
-    if s.len() <= i {
-        return Pair { sin: 0.0, cos: 0.0 };
-    }
-    Pair {
-        sin: f64_at(s, i),
-        cos: f64_at(s, i + 8),
-    }
-}
-
-pub fn orientation_at(s: &[u8], i: usize) -> Orientation
-    ensures { λ r. ⌜ r ≡ orientationAt (now (s .entry)) i ⌝ }
-{
-    if s.len() <= i {
-        return Orientation {
-            heading: pair_at(s, i),
-            pitch: pair_at(s, i),
-            roll: pair_at(s, i),
-        };
-    }
-    Orientation {
-        heading: pair_at(s, i),
-        pitch: pair_at(s, i + 16),
-        roll: pair_at(s, i + 32),
-    }
 }

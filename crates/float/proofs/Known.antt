@@ -5,6 +5,7 @@ use Prim.Native.Nat.{_+_, _^_}
 use lib.IntN.{pos, negsuc}
 use lib.Ieee.{nan, inf, fin, binary32, binary64, ofBits}
 use Rattle.float.specs.Rounding.{squareRoot, convert}
+use Rattle.float.specs.Signs.{signum}
 use Rattle.float.specs.Thin.{thinBound}
 
 -- 1 + 3 * 2 ^ -24 narrows to 1 + 2 ^ -22
@@ -50,3 +51,12 @@ bound-of-one = refl
 bound-of-zero : thinBound (ofBits binary32 0x8000_0000) ≡ fin false 0 (pos 0)
 unfolding thinBound ofBits
 bound-of-zero = refl
+
+-- the signs of the two zeros
+sign-of-zero : signum (fin false 0 (pos 0)) ≡ fin false 1 (pos 0)
+unfolding signum
+sign-of-zero = refl
+
+sign-of-minus-zero : signum (fin true 0 (pos 0)) ≡ fin true 1 (pos 0)
+unfolding signum
+sign-of-minus-zero = refl

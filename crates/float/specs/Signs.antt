@@ -25,6 +25,6 @@ signum (fin s m e) = fin s 1 (pos 0)
 unfoldable pub larger : Float → Float → Float
 larger x y = cond (isNan x) y (cond (isNan y) x (cond (lt x y) y (cond (lt y x) x (cond (negative x) y x))))
 
--- x comes totalLess y in the order of the numbers, in which -0 stands below +0
+-- x comes before y in the order of the numbers, in which -0 stands below +0
 unfoldable pub totalLess : Float → Float → Bool
 totalLess x y = lt x y || (eq x y && (negative x && not (negative y)))

@@ -142,7 +142,7 @@ fn find_place(rights: &[f32], order: &[u32], g: u32) -> RingPlace
     let right = right_of(rights, g);
     let mut i = 0;
     while i < order.len() {
-        if float::total_less(right_of(rights, order[i]), right) {
+        if signs::total_less(right_of(rights, order[i]), right) {
             return RingPlace(i);
         }
         i += 1;

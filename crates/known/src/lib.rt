@@ -1,1 +1,1 @@
-// Known shapes and stored scenes, computed on the definitions: see specs/ and proofs/.
+// Known shapes, computed on the definitions: see specs/ and proofs/.

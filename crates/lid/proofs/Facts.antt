@@ -1,21 +1,22 @@
 -- Facts of the lid beside its areas: the triangles are as many as the price list says (T of section 6); the ring never has more places than the corners
--- and two per hole; the log is as long as that and one entry per hole. Assumes nothing.
+-- and two per hole; the triangles are at least two fewer; the log is as long as the ring and one entry per hole. Assumes nothing.
 use mathlib.Core.Path.{_≡_, refl, sym, _∙_, ap, subst}
 use mathlib.Core.Bool.{Bool, true, false, _&&_, cond}
 use mathlib.Core.List.{List, [], _∷_, _++_, map, reverse}
-use Prim.Native.Nat.{ℕ, zero, suc, _+_, _-_, _≤_, _<_}
+use Prim.Native.Nat.{ℕ, zero, suc, _+_, _-_, _≤_, _<_, zero-le}
 use native.Mathlib.Nat.{add-assoc, zero-add, le-refl, mod-lt}
 use native.Mathlib.Omega.{arith}
 use lib.Dec.{T, leb, eqb, eqb→eq}
 use lib.ListN.{length, getD, take, drop, length-append, length-take, length-drop, length-map, length-reverse}
 use lib.Ieee.{lt}
+use borrow.Author.Tests.{leb-false}
 use Rattle.lists.specs.declared.Found.{Found}
 use Rattle.lists.specs.declared.Found.the-variants.{At, Nowhere}
 use Rattle.lists.specs.Each.{Each}
 use Rattle.lists.specs.Loops.{first, fold, list, sumOf, countOf, removeAt}
 use Rattle.float.specs.Number.{zerof}
 use Rattle.float.specs.Signs.{totalLess}
-use Rattle.face.specs.Faces.{TriangleLow, triangle}
+use Rattle.face.specs.Faces.{Triangle, TriangleLow, triangle}
 use Rattle.lid.specs.declared.Flat.{Flat}
 use Rattle.lid.specs.declared.Bridged.{Bridged}
 use Rattle.lid.specs.declared.Bridged.the-variants.{Unjoined, Joined}
@@ -27,7 +28,7 @@ use Rattle.lid.specs.Bridges.{bridge, splice, spliced, bridgeEntry, join
 use Rattle.lid.specs.Clipping.{before, here, after, isEar, isStraight, cutStraight, cutEar, clipStep, clipBy, clip}
 use Rattle.lid.specs.Lid.{Lid, earsOf, lastTriangle, lidFrom, lidRings, lidOf, oneMore, lidPrice}
 use Rattle.lists.proofs.Lists.{length-list, each-append, each-take, each-drop, each-at, each-reverseAux}
-use Rattle.lists.proofs.Loops.{either, Below, first-below, fold-keeps}
+use Rattle.lists.proofs.Loops.{either, either-by, Below, first-below, fold-keeps}
 use Rattle.lid.proofs.Areas.Lid.{BridgeIn, bridge-in, Known, inOrder-known, holesFrom-known, turnHole-length}
 use Rattle.lid.proofs.Areas.Ring.{removeAt-is}
 use Rattle.lid.proofs.Areas.Run.{leftEntry, rest-left, holeRing}
@@ -68,6 +69,12 @@ ears-count (e ∷ l) = go (eqb (e .mark) 1) (ears-count l)
     go true h = omega arith
     go false h = omega arith
 
+ears-most : (l : List Entry) → length (earsOf l) ≤ length l
+unfolding earsOf
+ears-most [] = zero-le
+ears-most (e ∷ l) =
+    either (λ (ts : List Triangle). length ts ≤ suc (length l)) (eqb (e .mark) 1) {x = triangle (e .a) (e .b) (e .c) ∷ earsOf l} {y = earsOf l} (omega (arith, ears-most l)) (omega (arith, ears-most l))
+
 -- a log that adds no mark m: neither an ear nor a corner left
 record Quiet (l : List Entry) : Type 0 where
   ears : countOf (isMark 1) l ≡ 0
@@ -106,48 +113,63 @@ module _ (fs : List Flat) where
       go Unjoined = (refl, refl)
       go (Joined t j) = (refl, refl)
 
-  -- the clipping cuts at a place of the ring, and no entry of it is marked 3
+  -- the clipping cuts at a place of a ring of more than three, and no entry of it is marked 3
   abbrev pub StepOk : List ℕ → Step → Type 0
-  StepOk r (Cut mark i) = (eqb mark 3 ≡ false) × (i .0 < length r)
+  StepOk r (Cut mark i) = (eqb mark 3 ≡ false) × (i .0 < length r) × (3 < length r)
   StepOk r Stop = Unit {0}
 
-  cutStraight-ok : (r : List ℕ) (f : Found) → Below (length r) f → StepOk r (cutStraight f)
+  cutStraight-ok : (r : List ℕ) (f : Found) → 3 < length r → Below (length r) f → StepOk r (cutStraight f)
   unfolding cutStraight
-  cutStraight-ok r (At i) b = (refl, b)
-  cutStraight-ok r Nowhere b = tt
+  cutStraight-ok r (At i) m b = (refl, b, m)
+  cutStraight-ok r Nowhere m b = tt
 
-  cutEar-ok : (r : List ℕ) (f : Found) → Below (length r) f → StepOk r (cutEar fs r f)
+  cutEar-ok : (r : List ℕ) (f : Found) → 3 < length r → Below (length r) f → StepOk r (cutEar fs r f)
   unfolding cutEar
-  cutEar-ok r (At i) b = (refl, b)
-  cutEar-ok r Nowhere b = cutStraight-ok r (first (isStraight fs r) (length r) 0) (first-below (isStraight fs r) (length r))
+  cutEar-ok r (At i) m b = (refl, b, m)
+  cutEar-ok r Nowhere m b = cutStraight-ok r (first (isStraight fs r) (length r) 0) m (first-below (isStraight fs r) (length r))
 
   pub clipStep-ok : (r : List ℕ) → StepOk r (clipStep fs r)
   unfolding clipStep
   clipStep-ok r =
-      either (StepOk r) (leb (length r) 3) {x = Stop} {y = cutEar fs r (first (isEar fs r) (length r) 0)} tt
-      (cutEar-ok r (first (isEar fs r) (length r) 0) (first-below (isEar fs r) (length r)))
+      either-by (StepOk r) (leb (length r) 3) {x = Stop} {y = cutEar fs r (first (isEar fs r) (length r) 0)} (λ h. tt)
+      (λ h. cutEar-ok r (first (isEar fs r) (length r) 0) (leb-false (length r) 3 h) (first-below (isEar fs r) (length r)))
 
   -- what holds of a clipping that stops, and through a cut, holds of the clipping
   clip-ind : (P : List ℕ → Logged → Type 0) → ((r : List ℕ) → P r (record { ring = r; log = [] }))
-      → ((r : List ℕ) (mark i : ℕ) (l : Logged) → eqb mark 3 ≡ false → i < length r → P (removeAt i r) l → P r (logged (entry mark (before r i) (here r i) (after r i)) l))
+      → ((r : List ℕ) (mark i : ℕ) (l : Logged) → eqb mark 3 ≡ false → i < length r → 3 < length r → P (removeAt i r) l → P r (logged (entry mark (before r i) (here r i) (after r i)) l))
       → (n : ℕ) (r : List ℕ) → P r (clip fs n r)
   unfolding clip clipBy
   clip-ind P stops cuts zero r = stops r
   clip-ind P stops cuts (suc n) r = go (clip-ind P stops cuts n) (clipStep fs r) (clipStep-ok r)
     where
       go : ((s : List ℕ) → P s (clip fs n s)) → (s : Step) → StepOk r s → P r (clipBy (λ t. clip fs n t) r s)
-      go ih (Cut mark i) q = cuts r mark (i .0) (clip fs n (removeAt (i .0) r)) (q .0) (q .1) (ih (removeAt (i .0) r))
+      go ih (Cut mark i) q = cuts r mark (i .0) (clip fs n (removeAt (i .0) r)) (q .0) (q .1) (q .2) (ih (removeAt (i .0) r))
       go ih Stop q = stops r
 
   clip-left : (n : ℕ) (r : List ℕ) → leftOver (clip fs n r .log) ≡ []
   unfolding logged leftOver isMark
   clip-left = clip-ind (λ r l. leftOver (l .log) ≡ []) (λ r. refl)
-      (λ r mark i l q h p. ap (λ (b : Bool). cond b (before r i ∷ leftOver (l .log)) (leftOver (l .log))) q ∙ p)
+      (λ r mark i l q h m p. ap (λ (b : Bool). cond b (before r i ∷ leftOver (l .log)) (leftOver (l .log))) q ∙ p)
 
   pub clip-size : (n : ℕ) (r : List ℕ) → length (clip fs n r .log) + length (clip fs n r .ring) ≡ length r
   unfolding logged
   clip-size = clip-ind (λ r l. length (l .log) + length (l .ring) ≡ length r) (λ r. zero-add (length r))
-      (λ r mark i l q h p. omega (arith, removeAt-size r i h))
+      (λ r mark i l q h m p. omega (arith, removeAt-size r i h))
+
+  last-most : (r : List ℕ) → length (lastTriangle fs r) ≤ length r - 2
+  unfolding lastTriangle
+  last-most r = go (eqb (length r) 3) (lt zerof (turnOf fs (getD r 0 0) (getD r 1 0) (getD r 2 0))) (eqb→eq (length r) 3)
+    where
+      go : (b c : Bool) → (T b → length r ≡ 3) → length (cond (b && c) (triangle (getD r 0 0) (getD r 1 0) (getD r 2 0) ∷ []) []) ≤ length r - 2
+      go false c h = zero-le
+      go true false h = zero-le
+      go true true h = let e = h tt in omega arith
+
+  -- a ring is cut into at most two triangles fewer than it has places
+  clip-most : (n : ℕ) (r : List ℕ) → length (clip fs n r .log) + length (lastTriangle fs (clip fs n r .ring)) ≤ length r - 2
+  unfolding logged
+  clip-most = clip-ind (λ r l. length (l .log) + length (lastTriangle fs (l .ring)) ≤ length r - 2) (λ r. omega (arith, last-most r))
+      (λ r mark i l q h m p. omega (arith, removeAt-size r i h))
 
   left-ears : (r : List ℕ) → countOf (isMark 1) (map leftEntry r) ≡ 0
   unfolding countOf isMark
@@ -310,12 +332,22 @@ module _ (fs : List Flat) (c : ℕ) (holes : List ℕ) where
       omega (arith, lidFrom-log skipped joinedAll, ring-size, joinAll-log fs (holeRing fs (ringsFrom c holes)) order (turnOuter fs outer), count-all order, inOrder-sum fs (λ h. 1) (holesFrom fs 0 (ringsFrom c holes)), holes-each fs 0 (ringsFrom c holes), rings-count c holes)
 
   -- a lid's log is the one entry marked 7, or at most as long as that
-  pub log-size : length (lidOf fs c holes .log) ≤ 1 + (c + sumOf (λ n. n + 2) holes + length holes)
+  pub log-size : length (lidOf fs c holes .log) ≤ 1 + (c + sumOf (λ n. n + 2) holes + length holes - 1)
   unfolding lidOf lidRings
   log-size =
       let skipped = skippedFrom fs 0 (ringsFrom c holes) in
-      either (λ (l : Lid). length (l .log) ≤ 1 + (c + sumOf (λ n. n + 2) holes + length holes)) (tooSmall fs (list (λ i. i) c 0))
+      either (λ (l : Lid). length (l .log) ≤ 1 + (c + sumOf (λ n. n + 2) holes + length holes - 1)) (tooSmall fs (list (λ i. i) c 0))
       {x = record { log = entry 7 0 0 0 ∷ []; triangles = [] }} {y = lidFrom fs skipped joinedAll} (omega arith) (omega (arith, open-size))
+
+  -- a lid has no triangle, or at most two fewer than its ring has places
+  pub lid-most : length (lidOf fs c holes .triangles) ≤ c + sumOf (λ n. n + 2) holes - 2
+  unfolding lidOf lidRings lidFrom
+  lid-most =
+      let skipped = skippedFrom fs 0 (ringsFrom c holes) in
+      let k = clip fs (length (joinedAll .ring)) (joinedAll .ring) in
+      either (λ (l : Lid). length (l .triangles) ≤ c + sumOf (λ n. n + 2) holes - 2) (tooSmall fs (list (λ i. i) c 0))
+      {x = record { log = entry 7 0 0 0 ∷ []; triangles = [] }} {y = lidFrom fs skipped joinedAll} zero-le
+      (omega (arith, length-append (earsOf (k .log)) (lastTriangle fs (k .ring)), ears-most (k .log), clip-most fs (length (joinedAll .ring)) (joinedAll .ring), ring-size))
 
 -- ---- the triangles' corners are corners of the outline
 
@@ -400,7 +432,7 @@ module _ (fs : List Flat) (n : ℕ) where
   clip-low : (f : ℕ) (r : List ℕ) → Low n r → Low n (clip fs f r .ring) × Each (EntryLow n) (clip fs f r .log)
   unfolding logged
   clip-low = clip-ind fs (λ r l. Low n r → Low n (l .ring) × Each (EntryLow n) (l .log)) (λ r q. (q, tt))
-      (λ r mark i l m h ih q.
+      (λ r mark i l m h k ih q.
       let p = ih (removeAt-low n r i q) in
       let some : 0 < length r = omega arith in
       (p .0, ((each-at (λ i. i < n) r _ 0 (mod-lt (i + length r - 1) some) q, each-at (λ i. i < n) r i 0 h q, each-at (λ i. i < n) r _ 0 (mod-lt (i + 1) some) q), p .1)))

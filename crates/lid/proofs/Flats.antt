@@ -14,8 +14,9 @@ use Rattle.lists.specs.Each.{Each}
 use Rattle.float.specs.Number.{zerof, halff, minArea}
 use Rattle.float.specs.Signs.{magnitude, signum}
 use Rattle.coords.specs.declared.Point.{Point}
-use Rattle.coords.specs.declared.Vector.{Vector}
-use Rattle.coords.specs.Coords.{origin, zeroV, unitX, unitZ, diff, plus, less, scale, negate, dot, cross, normalizeOr}
+use Rattle.vectors.specs.declared.Vector.{Vector}
+use Rattle.vectors.specs.Vectors.{zeroV, unitX, unitZ, plus, less, scale, negate, dot, cross, normalizeOr}
+use Rattle.coords.specs.Coords.{origin, diff}
 use Rattle.object.specs.declared.Corner.{Corner}
 use Rattle.lid.specs.declared.Flat.{Flat}
 use Rattle.lid.specs.Plane.{topsOf, areaNormal, riseStep, rise, lidSide, lidNormal, firstAxis, flatten}

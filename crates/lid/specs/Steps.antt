@@ -10,8 +10,9 @@ use Rattle.lists.specs.Loops.{removeAt}
 use Rattle.float.specs.Number.{zerof, halff}
 use Rattle.float.specs.Signs.{magnitude, signum}
 use Rattle.coords.specs.declared.Point.{Point}
-use Rattle.coords.specs.declared.Vector.{Vector}
-use Rattle.coords.specs.Coords.{unitX, unitZ, diff, plus, scale, dot, cross, normalizeOr}
+use Rattle.vectors.specs.declared.Vector.{Vector}
+use Rattle.vectors.specs.Vectors.{unitX, unitZ, plus, scale, dot, cross, normalizeOr}
+use Rattle.coords.specs.Coords.{diff}
 use Rattle.lid.specs.declared.Flat.{Flat}
 use Rattle.lid.specs.declared.CornerNumber.{CornerNumber}
 use Rattle.lid.specs.declared.Corners.{Corners}

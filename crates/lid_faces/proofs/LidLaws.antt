@@ -15,8 +15,9 @@ use Rattle.lists.proofs.Lists.{length-list, getD-list, join-size}
 use Rattle.lists.proofs.Buffers.{Reads, records-back, past}
 use Rattle.float.specs.Number.{zerof}
 use Rattle.coords.specs.declared.Point.{Point}
-use Rattle.coords.specs.declared.Vector.{Vector}
-use Rattle.coords.specs.Coords.{origin, diff, dot, cross}
+use Rattle.vectors.specs.declared.Vector.{Vector}
+use Rattle.vectors.specs.Vectors.{dot, cross}
+use Rattle.coords.specs.Coords.{origin, diff}
 use Rattle.coords.specs.Buffers.{vertexNumbers, verticesIn}
 use Rattle.coords.proofs.Buffers.{vertices-size, vertices-back}
 use Rattle.object.specs.declared.Corner.{Corner}

@@ -18,14 +18,14 @@ ghost use Rattle.lid.specs.Rings.{flats};
 ghost use Rattle.lid.specs.Written.{logWith, WritesLid};
 ghost use Rattle.shapes.specs.Shapes.{hasHeight, allCorners, lidFaces};
 ghost use Rattle.walls.specs.Outlines.{faceAt, pointsAt, Near, PointsNear, cornersOf, holeCorners, lidAt, Placed};
-use coords::Vector;
 use face::Tally;
-use fields::corner_at;
-use fields::point_at;
 use fields::u16_at;
+use geometry::corner_at;
+use geometry::point_at;
 use plane::first_axis;
 use plane::flat_corner;
 use triangulation::triangulate;
+use vectors::Vector;
 
 // The lid and the floor, drawn: how many triangles a lid has, and how many entries its log.
 pub struct Capped {

@@ -44,7 +44,7 @@ pub fn count_objects(s: &[u8], n: u32) -> Counted
 pub fn measure(s: &[u8]) -> Measured
     ensures { λ r. ⌜ measuredAnswer r ≡ measure (now (s .entry)) ⌝ }
 {
-    match scene::scenes::check_scene(s) {
+    match scenes::check_scene(s) {
         Checked::Refused(f, object) => Measured::Refused(f, object),
         Checked::Accepted(n) => Measured::Counts(count_objects(s, n)),
     }

@@ -88,24 +88,27 @@ fn triangle(limit: f32, vertices: &[f32], indices: &[u32], t: usize, i: usize) -
 {
     let count = vertices.len() / 3;
     let a = indices[i];
-    if count <= wide(a) {
+    let x = wide(a);
+    if count <= x {
         return Verdict::IndexOutOfRange(t, a, count);
     }
     if i + 1 == indices.len() {
         return Verdict::DegenerateTriangle(t);
     }
     let b = indices[i + 1];
-    if count <= wide(b) {
+    let y = wide(b);
+    if count <= y {
         return Verdict::IndexOutOfRange(t, b, count);
     }
     if i + 2 == indices.len() {
         return Verdict::DegenerateTriangle(t);
     }
     let c = indices[i + 2];
-    if count <= wide(c) {
+    let z = wide(c);
+    if count <= z {
         return Verdict::IndexOutOfRange(t, c, count);
     }
-    if degenerate(limit, vertices, wide(a), wide(b), wide(c)) {
+    if degenerate(limit, vertices, x, y, z) {
         return Verdict::DegenerateTriangle(t);
     }
     Verdict::Ok

@@ -2,7 +2,7 @@
 ghost use mathlib.Core.Path.{_≡_};
 ghost use Rattle.object.specs.Object.{frame};
 use coords::Point;
-use coords::Vector;
+use vectors::Vector;
 
 // One corner of an outline or one edge of a section.
 pub struct Corner {
@@ -48,9 +48,9 @@ impl Orientation {
         let u3 = u2 * heading.cos - v1 * heading.sin;
         let v3 = u2 * heading.sin + v1 * heading.cos;
         Vector {
-            x: float::narrow(u3),
-            y: float::narrow(v3),
-            z: float::narrow(z2),
+            x: roots::narrow(u3),
+            y: roots::narrow(v3),
+            z: roots::narrow(z2),
         }
     }
 }

@@ -8,8 +8,8 @@ use lib.ListN.{length}
 use lib.Ieee.{Float}
 use Rattle.lists.specs.Loops.{join, sumOf}
 use Rattle.lists.proofs.Lists.{sum-append}
-use Rattle.coords.specs.declared.Vector.{Vector}
-use Rattle.coords.specs.Coords.{zeroV}
+use Rattle.vectors.specs.declared.Vector.{Vector}
+use Rattle.vectors.specs.Vectors.{zeroV}
 use Rattle.object.specs.declared.Corner.{Corner}
 use Rattle.fields.specs.Fields.{cornersAt, countsAt, holesAt}
 use Rattle.scene.specs.declared.headers.Body.the-variants.{Outline}

@@ -1,7 +1,7 @@
 // The pass over the records of an accepted scene: each object is drawn from its record behind those
 // before it, and its span and account are stored.
 
-mod records;
+mod stores;
 
 ghost use mathlib.Core.Path.{_≡_};
 ghost use Prim.Native.Nat.{_+_, _*_, _<_, _≤_};
@@ -14,8 +14,8 @@ ghost use Rattle.scene.specs.Headers.{shapeOf};
 ghost use Rattle.shapes.specs.Drawn.{CanDraw};
 ghost use Rattle.pass.specs.Pass.{lent, startOf, spansMore, advanced, CanAdvance, DrewBehind, CanAdd, AddedObject, AddedAll};
 ghost use Rattle.pass.specs.Wrote.{countedBy, WroteAll};
-use crate::records::put_account;
-use crate::records::put_span;
+use crate::stores::put_account;
+use crate::stores::put_span;
 use scene::headers::Body;
 use shapes::Drawn;
 
@@ -134,7 +134,7 @@ fn object_at(
     requires { ⌜ CanAdd (now s) p ⌝ }
     ensures { λ r. ⌜ AddedObject limit (now (s .entry)) p r (lent (now (vs .entry)) (now (ns .entry)) (now (is .entry)) (now (spans .entry)) (now (account .entry)) (now (log .entry))) (lent (now (vs .exit)) (now (ns .exit)) (now (is .exit)) (now (spans .exit)) (now (account .exit)) (now (log .exit))) ⌝ }
 {
-    let h = scene::headers::header_at(s, p.at);
+    let h = headers::header_at(s, p.at);
     let body = h.body;
     let d = draw_behind(s, p.at + 5, body, limit, p, vs, ns, is, log);
     let t = d.tally;

@@ -1,14 +1,14 @@
 // The steps of `lid_normal`, `about` and of flattening: a caller reads an outline's corners one at a time.
 ghost use mathlib.Core.Path.{_≡_};
 ghost use Rattle.float.specs.Signs.{signum};
-ghost use Rattle.coords.specs.Coords.{scale, dot, cross};
+ghost use Rattle.vectors.specs.Vectors.{scale, dot, cross};
 ghost use Rattle.lid.specs.Plane.{riseStep, lidSide, firstAxis};
 ghost use Rattle.lid.specs.Steps.{areaNormalAt, lidNormalFrom, aboutFrom, flatOn, axisAcross};
 use coords::Point;
-use coords::Vector;
 use lid::Flat;
 use lid::MIN_AREA;
 use object::Corner;
+use vectors::Vector;
 
 // Twice the vector area of a polygon so far, with the edge from p to q; `first` is its first corner.
 pub fn area_normal_step(first: Point, p: Point, q: Point, sum: Vector) -> Vector
@@ -28,8 +28,8 @@ pub fn rise_step(sum: Vector, c: Corner) -> Vector
 pub fn lid_side(n: Vector, away: f32) -> Vector
     ensures { λ r. ⌜ r ≡ lidSide n away ⌝ }
 {
-    if float::abs(away) > MIN_AREA {
-        return n.scale(float::signum(away));
+    if signs::abs(away) > MIN_AREA {
+        return n.scale(signs::signum(away));
     }
     if n.z < 0.0 {
         return n.neg();
@@ -54,7 +54,7 @@ pub fn lid_normal(area: Vector, rise: Vector) -> Vector
 pub fn about(area: Vector, lid: Vector) -> Vector
     ensures { λ r. ⌜ r ≡ aboutFrom area lid ⌝ }
 {
-    lid.scale(float::signum(area.dot(lid)))
+    lid.scale(signs::signum(area.dot(lid)))
 }
 
 // The first axis of the lid's plane.
@@ -69,7 +69,7 @@ pub fn first_axis(lid: Vector) -> Vector
 fn axis_across(lid: Vector) -> Vector
     ensures { λ r. ⌜ r ≡ axisAcross lid ⌝ }
 {
-    if float::abs(lid.z) > 0.5 {
+    if signs::abs(lid.z) > 0.5 {
         return Vector {
             x: 1.0,
             y: 0.0,

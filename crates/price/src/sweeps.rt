@@ -7,7 +7,7 @@ ghost use Rattle.object.specs.declared.Section.{Section};
 ghost use Rattle.object.specs.Object.{sweep, roundSweep};
 ghost use Rattle.fields.specs.Fields.{sectionsAt};
 ghost use Rattle.shapes.specs.Price.{pairPrice, pairsPrice, offered};
-use fields::section_at;
+use geometry::section_at;
 use object::Section;
 use sections::is_flat;
 use sections::is_thin;

@@ -46,7 +46,7 @@ fn id_at(s: &[u8], i: usize) -> u32 {
         return 0;
     }
     let offset = byte(s, i) | byte(s, i + 1) << 8 | byte(s, i + 2) << 16 | byte(s, i + 3) << 24;
-    let h = scene::headers::header_at(s, place(offset));
+    let h = headers::header_at(s, place(offset));
     h.id
 }
 

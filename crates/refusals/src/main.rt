@@ -5,7 +5,7 @@ ghost use lib.ListN.{length};
 use libc::STDOUT_FILENO;
 use scene::refusal_number;
 use scene::scenes::Checked;
-use scene::scenes::check_scene;
+use scenes::check_scene;
 
 enum Next {
     Word(u32),

@@ -75,7 +75,7 @@ pub fn write_ring(us: &[f32], vs: &[f32], ring: &mut [u32], from: u32, outer: bo
 {
     fill(ring, from);
     let a = area(us, vs, ring);
-    let small = (ring.len() < 3) | (float::abs(a) < MIN_AREA);
+    let small = (ring.len() < 3) | (signs::abs(a) < MIN_AREA);
     if (a < 0.0) == outer {
         let to = from + ring.len() as u32;
         fill_down(ring, to);
@@ -87,7 +87,7 @@ fn right_step(us: &[f32], vs: &[f32], best: f32, c: CornerNumber) -> f32
     ensures { λ r. ⌜ r ≡ rightStep (flats (now (us .entry)) (now (vs .entry))) best (c .0) ⌝ }
 {
     let f = flat_at(us, vs, c);
-    float::max(best, f.u)
+    signs::max(best, f.u)
 }
 
 // A ring's greatest first coordinate.

@@ -14,8 +14,9 @@ use Rattle.lists.proofs.Lists.{length-list, getD-list, getD-any, list-append, s
 use Rattle.lists.proofs.Places.{next-in}
 use Rattle.lists.proofs.Stores.{store-start}
 use Rattle.coords.specs.declared.Point.{Point}
-use Rattle.coords.specs.declared.Vector.{Vector}
-use Rattle.coords.specs.Coords.{origin, diff, plus}
+use Rattle.vectors.specs.declared.Vector.{Vector}
+use Rattle.vectors.specs.Vectors.{plus}
+use Rattle.coords.specs.Coords.{origin, diff}
 use Rattle.coords.specs.Buffers.{vertexRecord, vertexNumbers, verticesIn}
 use Rattle.coords.proofs.Buffers.{vertices-size, vertices-back}
 use Rattle.object.specs.declared.Section.{Section}

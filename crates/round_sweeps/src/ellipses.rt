@@ -2,14 +2,15 @@
 ghost use mathlib.Core.Path.{_≡_};
 ghost use Prim.Native.Nat.{_<_};
 ghost use Rattle.lists.specs.Loops.{list};
-ghost use Rattle.coords.specs.Coords.{diff, plus};
+ghost use Rattle.vectors.specs.Vectors.{plus};
+ghost use Rattle.coords.specs.Coords.{diff};
 ghost use Rattle.face.specs.Drawing.{drawing, Drew, Room};
 ghost use Rattle.shapes.specs.Shapes.{ellipsePoint, ellipse, tubeFaces};
 ghost use Rattle.round_sweeps.specs.Rings.{ringAbout};
 use coords::Point;
-use coords::Vector;
 use face::Tally;
 use object::Section;
+use vectors::Vector;
 
 // The sixteen points of an ellipse.
 type RingPoints = [Point; 16];

@@ -16,7 +16,7 @@ use crate::ellipses::ellipse;
 use crate::ellipses::tube;
 use coords::Point;
 use face::Tally;
-use fields::section_at;
+use geometry::section_at;
 use sections::places_of;
 
 // What has been drawn, and the ellipses at the ends.

@@ -49,7 +49,7 @@ fn root(fd: i32) -> bool {
     let Next::Word(bits) = next_word(fd) else {
         return false;
     };
-    write_pattern(float::sqrt(words::float(bits)));
+    write_pattern(roots::sqrt(words::float(bits)));
     true
 }
 
@@ -61,7 +61,7 @@ fn narrowing(fd: i32) -> bool {
         return false;
     };
     let bits = (high as u64) * 0x1_0000_0000 + (low as u64);
-    write_pattern(float::narrow(words::double(bits)));
+    write_pattern(roots::narrow(words::double(bits)));
     true
 }
 

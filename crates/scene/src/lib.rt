@@ -1,4 +1,4 @@
-// Reads a scene: document 01, sections 1 and 2, up to refusal 7. No table of objects is made: a
+// A scene: document 01, sections 1 and 2, up to refusal 7. No table of objects is made: a
 // checking pass goes over the bytes, and later passes read each record again where it lies.
 ghost use mathlib.Core.Path.{_≡_};
 ghost use Rattle.scene.specs.Scene.{numberOf};

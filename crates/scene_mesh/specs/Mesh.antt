@@ -7,7 +7,7 @@ use lib.Dec.{eqb}
 use lib.Ieee.{Float}
 use Rattle.lists.specs.Loops.{list, join, sumOf}
 use Rattle.coords.specs.declared.Point.{Point}
-use Rattle.coords.specs.declared.Vector.{Vector}
+use Rattle.vectors.specs.declared.Vector.{Vector}
 use Rattle.object.specs.Object.{Shape, Object}
 use Rattle.face.specs.Faces.{Piece, keptOf, thinIn, writeFaces}
 use Rattle.lid.specs.Log.{Entry}

@@ -10,7 +10,7 @@ use lib.Ieee.{Float}
 use Rattle.lists.specs.Loops.{list}
 use Rattle.lists.proofs.Lists.{length-list, getD-list}
 use Rattle.coords.specs.declared.Point.{Point}
-use Rattle.coords.specs.declared.Vector.{Vector}
+use Rattle.vectors.specs.declared.Vector.{Vector}
 use Rattle.coords.specs.Coords.{origin, diff}
 use Rattle.object.specs.declared.Section.{Section}
 use Rattle.face.specs.Faces.{Face}

@@ -10,8 +10,8 @@ use Rattle.lists.specs.Each.{Each}
 use Rattle.lists.specs.Loops.{list, join, sumOf}
 use Rattle.float.specs.Number.{zerof, onef}
 use Rattle.coords.specs.declared.Point.{Point}
-use Rattle.coords.specs.declared.Vector.{Vector}
-use Rattle.coords.specs.Coords.{zeroV, negate}
+use Rattle.vectors.specs.declared.Vector.{Vector}
+use Rattle.vectors.specs.Vectors.{zeroV, negate}
 use Rattle.object.specs.declared.Corner.{Corner}
 use Rattle.object.specs.declared.Extent.{Extent}
 use Rattle.object.specs.declared.Extent.the-variants.{Box, Cylinder, Unsized}

@@ -6,7 +6,7 @@ use lib.Ieee.{Float, binary32, sub, ofBits}
 use Rattle.lists.specs.Each.{Each}
 use Rattle.float.specs.Number.{_-f_, zerof, onef, halff}
 use Rattle.coords.specs.declared.Point.{Point}
-use Rattle.coords.specs.declared.Vector.{Vector}
+use Rattle.vectors.specs.declared.Vector.{Vector}
 use Rattle.object.specs.declared.Section.{Section}
 use Rattle.object.specs.declared.Orientation.{Orientation}
 use Rattle.shapes.specs.Shapes.{boxPoint, ringPoint, ringAt, ellipsePoint, ellipse}

@@ -12,8 +12,8 @@ use Rattle.lists.specs.Each.{Each}
 use Rattle.lists.specs.Loops.{list, join, sumOf, countOf}
 use Rattle.float.specs.Number.{zerof, onef}
 use Rattle.coords.specs.declared.Point.{Point}
-use Rattle.coords.specs.declared.Vector.{Vector}
-use Rattle.coords.specs.Coords.{zeroV, negate}
+use Rattle.vectors.specs.declared.Vector.{Vector}
+use Rattle.vectors.specs.Vectors.{zeroV, negate}
 use Rattle.object.specs.declared.Corner.{Corner}
 use Rattle.object.specs.declared.Extent.{Extent}
 use Rattle.object.specs.declared.Extent.the-variants.{Box, Cylinder, Unsized}
@@ -32,7 +32,7 @@ use Rattle.lid.specs.Plane.{topsOf, basesOf, lidNormal, about}
 use Rattle.lid.specs.Rings.{turnOf}
 use Rattle.lid.specs.Log.{Entry, isMark, leftOver}
 use Rattle.lid.specs.Lid.{oneMore, lidPrice}
-use Rattle.lid.proofs.Facts.{total, log-size}
+use Rattle.lid.proofs.Facts.{total, log-size, lid-triangles, lid-most}
 use Rattle.lists.proofs.Lists.{sum-append, sum-list, each-at, each-map, each-any}
 use Rattle.lists.proofs.Loops.{either}
 use Rattle.shapes.specs.Drawn.{CanDraw}
@@ -67,7 +67,7 @@ unfolding boxSides boxFace sumOf quad
 sides-points o t l w h axis depth part =
     omega (arith, four-or-none (eq depth zerof) (boxFace o t l w h axis zerof (negate (onAxis axis onef zerof zerof (frame t))) (part + 1)) refl)
 
-box-points : (o : Point) (t : Orientation) (l w h : Float) → sumOf points (box o t l w h) ≤ 24
+pub box-points : (o : Point) (t : Orientation) (l w h : Float) → sumOf points (box o t l w h) ≤ 24
 unfolding box
 box-points o t l w h =
     let x = boxSides o t l w h alongX l 11 in
@@ -75,26 +75,28 @@ box-points o t l w h =
     let z = boxSides o t l w h alongZ h 15 in
     omega (arith, sum-append points (x ++ y) z, sum-append points x y, sides-points o t l w h alongX l 11, sides-points o t l w h alongY w 13, sides-points o t l w h alongZ h 15)
 
-cylinder-points : (o : Point) (t : Orientation) (r h : Float) → sumOf points (cylinder o t r h) ≤ 96
+pub cylinder-points : (o : Point) (t : Orientation) (r h : Float) → sumOf points (cylinder o t r h) ≡ cond (lt zerof h) 96 80
 unfolding cylinder cylinderFaces sumOf endFace
 cylinder-points o t r h =
     let bottom = ringAt o t r zerof in
     let top = ringAt o t r h in
     let up = frame t zerof zerof onef in
     let floor : Face = record { points = bottom; triangles = fan 16; out = negate up; part = 3 } in
-    let closing = cond (lt zerof h) (floor ∷ []) [] in
     let sides = list (cylinderSide t bottom top) 16 0 in
-    let a = ring-size o t r zerof in
-    let c = at-most-then (lt zerof h) (floor ∷ []) 16 (unfold sumOf in omega arith) in
-    omega (arith, sum-append points sides (endFace top up 2 ∷ closing), sum-list points 4 (cylinderSide t bottom top) (side bottom top) 16 0, ring-size o t r h, c)
+    sum-append points sides (endFace top up 2 ∷ cond (lt zerof h) (floor ∷ []) [])
+    ∙ closed (lt zerof h) (sumOf points sides) floor top (sum-list points 4 (cylinderSide t bottom top) (side bottom top) 16 0) (ring-size o t r zerof) (ring-size o t r h)
   where
     side : (bottom top : List Point) (k : ℕ) → points (cylinderSide t bottom top k) ≡ 4
     side bottom top k = unfold cylinderSide in quad-points _ _ _ _ _ _
 
+    closed : (b : Bool) (n : ℕ) (floor : Face) (top : List Point) → n ≡ 4 * 16 → points floor ≡ 16 → length top ≡ 16 → n + (length top + sumOf points (cond b (floor ∷ []) [])) ≡ cond b 96 80
+    closed true n floor top p q r = omega arith
+    closed false n floor top p q r = omega arith
+
 solid-points : (o : Point) (t : Orientation) (x : Extent) → sumOf points (solidFaces o t x) ≤ 96
 unfolding solidFaces sumOf
 solid-points o t (Box l w h) = omega (arith, box-points o t l w h)
-solid-points o t (Cylinder r h) = cylinder-points o t r h
+solid-points o t (Cylinder r h) = omega (arith, cylinder-points o t r h, either (λ (n : ℕ). n ≤ 96) (lt zerof h) {x = 96} {y = 80} (omega arith) (omega arith))
 solid-points o t Unsized = omega arith
 
 price-most : (b : Bool) → cond b 60 46 ≤ 60
@@ -136,16 +138,21 @@ lid-points cs lid ts =
     let f = at-most-then (hasHeight cs) (floor ∷ []) (length cs) (unfold sumOf in omega arith) in
     omega (arith, f)
 
-outline-points : (closed : Bool) (cs : List Corner) (holes : List (List Corner)) → sumOf points (outlineFaces closed cs holes) ≤ 6 * (length cs + total (map length holes))
-unfolding outlineFaces
-outline-points closed cs holes =
+pub outline-points : (closed : Bool) (cs : List Corner) (holes : List (List Corner))
+    → sumOf points (outlineFaces closed cs holes) ≤ cond closed (6 * (length cs + total (map length holes))) (4 * (length cs - 1 + total (map length holes)))
+unfolding outlineFaces outerWalls sumOf
+outline-points true cs holes =
     let lid = lidNormal cs in
     let ts = outlineLid cs holes .triangles in
     let all = allCorners cs holes in
-    let outer = outerWalls closed cs lid in
+    let outer = outerWalls true cs lid in
     let inner = join (holeWalls lid) holes in
-    let top = cond closed (lidFaces all lid ts) [] in
-    omega (arith, sum-append points (outer ++ inner) top, sum-append points outer inner, outer-points closed cs lid, holes-points lid holes, at-most-then closed (lidFaces all lid ts) (2 * length all) (lid-points all lid ts), all-total cs holes)
+    omega (arith, sum-append points (outer ++ inner) (lidFaces all lid ts), sum-append points outer inner, outer-points true cs lid, holes-points lid holes, lid-points all lid ts, all-total cs holes)
+outline-points false cs holes =
+    let lid = lidNormal cs in
+    let outer = walls cs zeroV (length cs - 1) in
+    let inner = join (holeWalls lid) holes in
+    omega (arith, sum-append points (outer ++ inner) [], sum-append points outer inner, walls-points cs zeroV (length cs - 1), holes-points lid holes)
 
 -- the entries of a log: at most 609 by the limits of section 1
 spread : (counts : List ℕ) → sumOf (λ n. n + 2) counts ≡ total counts + 2 * length counts
@@ -153,7 +160,7 @@ unfolding sumOf
 spread [] = refl
 spread (n ∷ counts) = omega (arith, spread counts)
 
-pub outline-entries : (cs : List Corner) (holes : List (List Corner)) → length (outlineLid cs holes .log) ≤ 1 + (length cs + total (map length holes) + 3 * length holes)
+pub outline-entries : (cs : List Corner) (holes : List (List Corner)) → length (outlineLid cs holes .log) ≤ 1 + (length cs + total (map length holes) + 3 * length holes - 1)
 unfolding outlineLid
 outline-entries cs holes = omega (arith, log-size (flatOf cs holes) (length cs) (map length holes), spread (map length holes), length-map holes length)
 
@@ -174,12 +181,20 @@ unfolding sumOf
 sum-lengths [] = refl
 sum-lengths (h ∷ holes) = omega (arith, sum-lengths holes)
 
-outline-most : (closed : Bool) (cs : List Corner) (holes : List (List Corner)) → outlinePrice closed cs holes ≤ 4 + 6 * length holes + 4 * (length cs + total (map length holes))
+lid-price : (cs : List Corner) (holes : List (List Corner)) → lidPrice (flatOf cs holes) (outlineLid cs holes .log) ≤ length cs + total (map length holes) + 2 * length holes - 2
+unfolding outlineLid
+lid-price cs holes =
+    let fs = flatOf cs holes in
+    omega (arith, lid-triangles fs (length cs) (map length holes), lid-most fs (length cs) (map length holes), spread (map length holes), length-map holes length)
+
+pub outline-most : (closed : Bool) (cs : List Corner) (holes : List (List Corner))
+    → let n = length cs + total (map length holes) in
+    outlinePrice closed cs holes ≤ cond closed (2 * n + 2 * (n + 2 * length holes - 2)) (2 * (length cs - 1 + total (map length holes)))
 unfolding outlinePrice
 outline-most false cs holes = omega (arith, sum-lengths holes)
 outline-most true cs holes =
     let t = lidPrice (flatOf cs holes) (outlineLid cs holes .log) in
-    omega (arith, sum-lengths holes, price-lid cs holes, outline-entries cs holes, either (λ (n : ℕ). n ≤ t) (hasHeight (allCorners cs holes)) {x = t} {y = 0} (omega arith) (omega arith))
+    omega (arith, sum-lengths holes, lid-price cs holes, either (λ (n : ℕ). n ≤ t) (hasHeight (allCorners cs holes)) {x = t} {y = 0} (omega arith) (omega arith))
 
 -- ---- sweeps
 
@@ -200,7 +215,7 @@ pair-points : (a b : Section) → sumOf points (pairFaces a b) ≤ 16
 unfolding pairFaces quad
 pair-points a b = four-faces (isThinSection a && isThinSection b) (isFlatSection a && isFlatSection b) _ _ _ _ refl refl refl refl
 
-sweep-points : (ss : List Section) → sumOf points (sweepFaces ss) ≤ 16 * length ss
+pub sweep-points : (ss : List Section) → sumOf points (sweepFaces ss) ≤ 16 * length ss - 8
 unfolding sweepFaces sweepCaps cap quad sumOf pairs
 sweep-points [] = omega arith
 sweep-points (s ∷ rest) = omega (arith, sum-append points (pairs pairFaces (s ∷ rest)) (sweepCaps (s ∷ rest)), pairs-points pairFaces 16 pair-points s rest)
@@ -215,7 +230,7 @@ unfolding pairsPrice
 pairs-most a [] = omega arith
 pairs-most a (b ∷ rest) = omega (arith, pair-most a b, pairs-most b rest)
 
-sweep-most : (ss : List Section) → pairsPrice ss + capsPrice 4 ss ≤ 8 * length ss
+pub sweep-most : (ss : List Section) → pairsPrice ss + capsPrice 4 ss ≤ 8 * length ss - 4
 unfolding pairsPrice capsPrice
 sweep-most [] = omega arith
 sweep-most (s ∷ rest) = omega (arith, pairs-most s rest)
@@ -232,18 +247,18 @@ unfolding tubeCaps endFace sumOf
 tubeCaps-points [] q = omega arith
 tubeCaps-points (e ∷ rest) q = omega (arith, q .0, each-at Sixteen (e ∷ rest) (length rest) ellipse0 (omega arith) q)
 
-tubes-points : (es : List Ellipse) → Each Sixteen es → sumOf points (pairs tubeFaces es ++ tubeCaps es) ≤ 64 * length es
+tubes-points : (es : List Ellipse) → Each Sixteen es → sumOf points (pairs tubeFaces es ++ tubeCaps es) ≤ 64 * length es - 32
 unfolding pairs tubeCaps sumOf
 tubes-points [] q = omega arith
 tubes-points (e ∷ rest) q =
     omega (arith, sum-append points (pairs tubeFaces (e ∷ rest)) (tubeCaps (e ∷ rest)), pairs-points tubeFaces 64 tube-points e rest, tubeCaps-points (e ∷ rest) q)
 
-round-points : (ss : List Section) → sumOf points (roundSweepFaces ss) ≤ 64 * length ss
+pub round-points : (ss : List Section) → sumOf points (roundSweepFaces ss) ≤ 64 * length ss - 32
 unfolding roundSweepFaces
 round-points ss =
     omega (arith, length-map ss ellipse, tubes-points (map ellipse ss) (each-map (λ (s : Section). Unit {0}) Sixteen ellipse (λ s u. ellipse-sixteen s) ss (each-any (λ (s : Section). Unit {0}) (λ s. tt) ss)))
 
-round-most : (ss : List Section) → 32 * (length ss - 1) + capsPrice 28 ss ≤ 32 * length ss
+pub round-most : (ss : List Section) → 32 * (length ss - 1) + capsPrice 28 ss ≤ 32 * length ss - 4
 unfolding capsPrice
 round-most [] = omega arith
 round-most (s ∷ rest) = omega arith
@@ -262,13 +277,21 @@ unfolding logOf
 few-entries true cs holes n h = omega (arith, outline-entries cs holes)
 few-entries false cs holes n h = omega arith
 
+few-points : (closed : Bool) (cs : List Corner) (holes : List (List Corner)) → sumOf points (outlineFaces closed cs holes) ≤ 6 * (length cs + total (map length holes))
+few-points true cs holes = outline-points true cs holes
+few-points false cs holes = omega (arith, outline-points false cs holes)
+
+few-triangles : (closed : Bool) (cs : List Corner) (holes : List (List Corner)) → outlinePrice closed cs holes ≤ 4 * (length cs + total (map length holes) + length holes)
+few-triangles true cs holes = omega (arith, outline-most true cs holes)
+few-triangles false cs holes = omega (arith, outline-most false cs holes)
+
 outline-sized : (closed : Bool) (cs : List Corner) (holes : List (List Corner)) (c h : ℕ) → length cs + total (map length holes) ≡ c → length holes ≡ h → c ≤ 512 → h ≤ 32
     → Sized (5 + (4 + 2 * h + 24 * c)) (outline closed cs holes)
 unfolding facesOf offered
 outline-sized closed cs holes c h p q l m =
     record {
-      points = omega (arith, outline-points closed cs holes);
-      triangles = omega (arith, offered-count (outline closed cs holes), outline-most closed cs holes);
+      points = omega (arith, few-points closed cs holes);
+      triangles = omega (arith, offered-count (outline closed cs holes), few-triangles closed cs holes);
       entries = few-entries closed cs holes _ (omega arith);
       log = few-entries closed cs holes _ (omega arith);
     }

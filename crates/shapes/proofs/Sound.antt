@@ -10,8 +10,9 @@ use Rattle.lists.specs.Each.{Each}
 use Rattle.lists.specs.Loops.{list, join, next}
 use Rattle.float.specs.Number.{zerof, onef}
 use Rattle.coords.specs.declared.Point.{Point}
-use Rattle.coords.specs.declared.Vector.{Vector}
-use Rattle.coords.specs.Coords.{origin, zeroV}
+use Rattle.vectors.specs.declared.Vector.{Vector}
+use Rattle.vectors.specs.Vectors.{zeroV}
+use Rattle.coords.specs.Coords.{origin}
 use Rattle.object.specs.declared.Corner.{Corner}
 use Rattle.object.specs.declared.Extent.{Extent}
 use Rattle.object.specs.declared.Extent.the-variants.{Box, Cylinder, Unsized}

@@ -7,8 +7,9 @@ use lib.Ieee.{Float, neg, lt, eq}
 use Rattle.lists.specs.Loops.{list, join, some, next}
 use Rattle.float.specs.Number.{_-f_, _*f_, zerof, onef, halff}
 use Rattle.coords.specs.declared.Point.{Point}
-use Rattle.coords.specs.declared.Vector.{Vector}
-use Rattle.coords.specs.Coords.{vector, origin, zeroV, unitZ, diff, moved, plus, scale, negate, cross, lerp, samePoint}
+use Rattle.vectors.specs.declared.Vector.{Vector}
+use Rattle.vectors.specs.Vectors.{vector, zeroV, unitZ, plus, scale, negate, cross}
+use Rattle.coords.specs.Coords.{origin, diff, moved, lerp, samePoint}
 use Rattle.circle.specs.Circle.{angle, sideAngle, sine, cosine}
 use Rattle.object.specs.declared.Corner.{Corner}
 use Rattle.object.specs.declared.Extent.{Extent}

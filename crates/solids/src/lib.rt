@@ -16,9 +16,9 @@ fn turn_at(s: &[u8], i: usize) -> Orientation
     ensures { λ r. ⌜ r ≡ orientationAt (now (s .entry)) (i + 12) ⌝ }
 {
     if s.len() <= i {
-        return fields::orientation_at(s, i);
+        return geometry::orientation_at(s, i);
     }
-    fields::orientation_at(s, i + 12)
+    geometry::orientation_at(s, i + 12)
 }
 
 // A solid whose position and orientation lie at i of the scene's bytes.
@@ -36,7 +36,7 @@ pub fn solid(
     requires { ⌜ Room before t 96 60 ⌝ }
     ensures { λ r. ⌜ Drew limit (solidFaces (pointAt (now (s .entry)) i) (orientationAt (now (s .entry)) (i + 12)) extent) before (drawing t (now (vs .entry)) (now (ns .entry)) (now (is .entry))) (drawing r (now (vs .exit)) (now (ns .exit)) (now (is .exit))) ⌝ }
 {
-    let origin = fields::point_at(s, i);
+    let origin = geometry::point_at(s, i);
     let turn = turn_at(s, i);
     match extent {
         Extent::Box(length, width, height) => {

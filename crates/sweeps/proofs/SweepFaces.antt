@@ -9,7 +9,7 @@ use lib.ListN.{length, getD}
 use Rattle.lists.specs.Loops.{list, sumOf}
 use Rattle.lists.proofs.Lists.{length-list}
 use Rattle.coords.specs.declared.Point.{Point}
-use Rattle.coords.specs.declared.Vector.{Vector}
+use Rattle.vectors.specs.declared.Vector.{Vector}
 use Rattle.coords.specs.Coords.{diff}
 use Rattle.object.specs.declared.Section.{Section}
 use Rattle.face.specs.Faces.{Face, fan, quad}

@@ -7,20 +7,21 @@ ghost use Prim.Native.Nat.{_+_, _*_, _<_, _≤_};
 ghost use lib.Ieee.{neg};
 ghost use lib.ListN.{length};
 ghost use Rattle.float.specs.Number.{zerof};
-ghost use Rattle.coords.specs.Coords.{vector, unitZ, negate, diff};
+ghost use Rattle.vectors.specs.Vectors.{vector, unitZ, negate};
+ghost use Rattle.coords.specs.Coords.{diff};
 ghost use Rattle.face.specs.Drawing.{drawing, Drew, Room};
 ghost use Rattle.face.specs.Faces.{quad};
 ghost use Rattle.fields.specs.Fields.{pointAt, sectionAt, sectionsAt};
 ghost use Rattle.shapes.specs.Shapes.{isFlatSection, pairFaces, pairs, cap, sweepFaces};
-use coords::Vector;
 use face::Tally;
-use fields::point_at;
-use fields::section_at;
+use geometry::point_at;
+use geometry::section_at;
 use object::Corner;
 use object::Section;
 use sections::is_flat;
 use sections::is_thin;
 use sections::places_of;
+use vectors::Vector;
 
 // The wall between two corners.
 fn wall(

@@ -1,8 +1,8 @@
 -- The corners of an outline by their places in the scene's bytes, and loops over them. Assumes nothing.
 use mathlib.Core.Path.{_≡_, refl, sym, ap, _∙_}
 use mathlib.Core.Bool.{Bool, true, false, _||_}
-use Prim.Native.Nat.{ℕ, zero, suc, _+_, _-_, _*_, _%_, _<_, _≤_}
-use native.Mathlib.Nat.{zero-add, add-zero, sub-zero, le-of-eq, mod-lt}
+use Prim.Native.Nat.{ℕ, zero, suc, _+_, _-_, _*_, _<_, _≤_}
+use native.Mathlib.Nat.{zero-add, add-zero, sub-zero, le-of-eq}
 use native.Mathlib.Numerals.{add-one}
 use native.Mathlib.Omega.{arith}
 use mathlib.Core.List.{List, [], _∷_, map}
@@ -11,10 +11,12 @@ use lib.Seq.{sets, sets-eq, take-append-seam, take-all, length-sets}
 use Rattle.lists.specs.Loops.{list, some, loop, next}
 use Rattle.lists.proofs.Lists.{length-list, getD-list, list-same}
 use Rattle.lists.proofs.Loops.{list-step, loop-start}
+use Rattle.lists.proofs.Places.{next-in}
 use Rattle.lists.proofs.Tests.{list-none}
 use Rattle.coords.specs.declared.Point.{Point}
-use Rattle.coords.specs.declared.Vector.{Vector}
-use Rattle.coords.specs.Coords.{origin, zeroV}
+use Rattle.vectors.specs.declared.Vector.{Vector}
+use Rattle.vectors.specs.Vectors.{zeroV}
+use Rattle.coords.specs.Coords.{origin}
 use Rattle.object.specs.declared.Corner.{Corner}
 use Rattle.fields.specs.Fields.{pointAt, cornerAt, cornersAt}
 use Rattle.lid.specs.Plane.{topsOf, basesOf, areaNormalStep, areaNormal}
@@ -53,16 +55,16 @@ module _ (s : List ℕ) (n at : ℕ) where
 
 -- the vector area of n points
 module _ (s : List ℕ) (n at : ℕ) where
-  pub area-at : (k : ℕ) (sum : Vector) → k < n
-      → areaNormalAt (pointAt s at) (pointAt s (at + 24 * k)) (pointAt s (at + 24 * ((k + 1) % n))) sum ≡ areaNormalStep (pointsAt s n at) k sum
-  area-at k sum h =
+  pub area-at : {p q : Point} (k : ℕ) (sum : Vector) → k < n → p ≡ pointAt s (at + 24 * k) → q ≡ pointAt s (at + 24 * next n k)
+      → areaNormalAt (pointAt s at) p q sum ≡ areaNormalStep (pointsAt s n at) k sum
+  area-at {p} {q} k sum h e g =
       let ps = pointsAt s n at in
-      let j = (k + 1) % n in
+      let j = next n k in
       let some : 0 < n = omega arith in
       sym (ap (λ (m : ℕ). areaNormalAt (getD ps 0 origin) (getD ps k origin) (getD ps (next m k) origin) sum) (points-length s n at)
       ∙ ap (λ (p : Point). areaNormalAt p (getD ps k origin) (getD ps j origin) sum) (points-first s n at some)
-      ∙ ap (λ (p : Point). areaNormalAt (pointAt s at) p (getD ps j origin) sum) (points-get s n at k h)
-      ∙ ap (λ (p : Point). areaNormalAt (pointAt s at) (pointAt s (at + 24 * k)) p sum) (points-get s n at j (mod-lt (k + 1) some)))
+      ∙ ap (λ (p : Point). areaNormalAt (pointAt s at) p (getD ps j origin) sum) (points-get s n at k h ∙ sym e)
+      ∙ ap (λ (q : Point). areaNormalAt (pointAt s at) p q sum) (points-get s n at j (next-in n k some) ∙ sym g))
 
   pub area-start : loop (areaNormalStep (pointsAt s n at)) (n - 0) 0 zeroV ≡ areaNormal (pointsAt s n at)
   unfolding areaNormal

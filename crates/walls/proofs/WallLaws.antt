@@ -1,8 +1,8 @@
 -- The walls of an outline, one after the other. Assumes nothing.
-use mathlib.Core.Path.{_≡_, refl, sym, ap, _∙_}
+use mathlib.Core.Path.{_≡_, refl, sym, ap, ap₂, _∙_, subst}
 use mathlib.Core.Bool.{Bool, true, false}
-use Prim.Native.Nat.{ℕ, suc, _+_, _-_, _*_, _%_, _<_, _≤_}
-use native.Mathlib.Nat.{mod-lt, sub-zero}
+use Prim.Native.Nat.{ℕ, suc, _+_, _-_, _*_, _<_, _≤_}
+use native.Mathlib.Nat.{sub-zero}
 use native.Mathlib.Numerals.{add-one}
 use native.Mathlib.Omega.{arith}
 use mathlib.Core.List.{List, [], _∷_, _++_}
@@ -10,9 +10,10 @@ use lib.ListN.{length, getD}
 use lib.Ieee.{Float}
 use Rattle.lists.specs.Loops.{list, join, sumOf, next}
 use Rattle.lists.proofs.Loops.{list-step}
+use Rattle.lists.proofs.Places.{next-in}
 use Rattle.lists.proofs.Tests.{list-none}
-use Rattle.coords.specs.declared.Vector.{Vector}
-use Rattle.coords.specs.Coords.{zeroV, diff, cross, negate}
+use Rattle.vectors.specs.declared.Vector.{Vector}
+use Rattle.vectors.specs.Vectors.{zeroV, negate}
 use Rattle.object.specs.declared.Corner.{Corner}
 use Rattle.fields.specs.Fields.{cornerAt, cornersAt, holesAt}
 use Rattle.scene.proofs.Parts.{corners-get, corners-length}
@@ -23,19 +24,22 @@ use Rattle.lid.specs.Plane.{about}
 use Rattle.shapes.specs.Shapes.{corner0, wall, walls, outerWalls, holeWalls}
 use Rattle.shapes.proofs.Sizes.{walls-points}
 use Rattle.shapes.proofs.Prices.{walls-count}
+use Rattle.walls.specs.Outlines.{wallBetween}
 use Rattle.walls.proofs.Drawings.{left-to-draw, none-to-draw}
 
--- the corners of a wall, where they lie
-abbrev pub wallBetween : Corner → Corner → Vector → Face
-wallBetween a b normal = quad 1 (a .base) (b .base) (b .top) (a .top) (cross (diff (b .base) (a .base)) normal)
+-- wall k is drawn where it is drawn between corner k and the next, where they lie
+module _ (s : List ℕ) (n at : ℕ) (normal : Vector) (k : ℕ) (h : k < n) where
+  wall-at : wallBetween (cornerAt s (at + 24 * k)) (cornerAt s (at + 24 * next n k)) normal ≡ wall (cornersAt s n at) normal k
+  unfolding wall
+  wall-at =
+      sym (ap (λ (m : ℕ). wallBetween (getD (cornersAt s n at) k corner0) (getD (cornersAt s n at) (next m k) corner0) normal) (corners-length s n at)
+      ∙ ap (λ (a : Corner). wallBetween a (getD (cornersAt s n at) (next n k) corner0) normal) (corners-get s n at k corner0 h)
+      ∙ ap (λ (b : Corner). wallBetween (cornerAt s (at + 24 * k)) b normal) (corners-get s n at (next n k) corner0 (next-in n k (omega arith))))
 
-pub wall-at : (s : List ℕ) (n at : ℕ) (normal : Vector) (k : ℕ) → k < n
-    → wallBetween (cornerAt s (at + 24 * k)) (cornerAt s (at + 24 * ((k + 1) % n))) normal ≡ wall (cornersAt s n at) normal k
-unfolding wall
-wall-at s n at normal k h =
-    sym (ap (λ (m : ℕ). wallBetween (getD (cornersAt s n at) k corner0) (getD (cornersAt s n at) (next m k) corner0) normal) (corners-length s n at)
-    ∙ ap (λ (a : Corner). wallBetween a (getD (cornersAt s n at) ((k + 1) % n) corner0) normal) (corners-get s n at k corner0 h)
-    ∙ ap (λ (b : Corner). wallBetween (cornerAt s (at + 24 * k)) b normal) (corners-get s n at ((k + 1) % n) corner0 (mod-lt (k + 1) (omega arith))))
+  pub wall-drew : {limit : Float} {before : ℕ} {a b : Corner} {d d′ : Drawing} → a ≡ cornerAt s (at + 24 * k) → b ≡ cornerAt s (at + 24 * next n k)
+      → Drew limit (wallBetween a b normal ∷ []) before d d′ → Drew limit (wall (cornersAt s n at) normal k ∷ []) before d d′
+  wall-drew {limit} {before} {a} {b} {d} {d′} p q =
+      subst (λ (f : Face). Drew limit (f ∷ []) before d d′) (ap₂ (λ (a b : Corner). wallBetween a b normal) p q ∙ wall-at)
 
 -- the room that walls leave
 module _ {limit : Float} {before : ℕ} {d d′ : Drawing} (cs : List Corner) (normal : Vector) where

@@ -4,10 +4,13 @@ use Prim.Native.Nat.{ℕ, _+_, _*_, _<_, _≤_, _^_}
 use mathlib.Core.List.{List}
 use Rattle.lists.specs.Loops.{list, sumOf}
 use Rattle.coords.specs.declared.Point.{Point}
-use Rattle.coords.specs.declared.Vector.{Vector}
+use Rattle.vectors.specs.declared.Vector.{Vector}
+use Rattle.vectors.specs.Vectors.{cross}
+use Rattle.coords.specs.Coords.{diff}
+use Rattle.object.specs.declared.Corner.{Corner}
 use Rattle.object.specs.Object.{Shape, outline}
 use Rattle.fields.specs.Fields.{pointAt, countsAt, cornersAt, holesAt}
-use Rattle.face.specs.Faces.{Triangle, Face}
+use Rattle.face.specs.Faces.{Triangle, Face, quad}
 use Rattle.lid.specs.Lid.{Lid}
 use Rattle.shapes.specs.Shapes.{outlineLid}
 
@@ -25,6 +28,10 @@ PointsNear at n = at + 24 * n < 2 ^ 33
 -- a face by its parts
 abbrev pub faceAt : ℕ → List Point → List Triangle → Vector → Face
 faceAt part points triangles out = record { points = points; triangles = triangles; out = out; part = part }
+
+-- the wall from a corner to the next
+abbrev pub wallBetween : Corner → Corner → Vector → Face
+wallBetween a b normal = quad 1 (a .base) (b .base) (b .top) (a .top) (cross (diff (b .base) (a .base)) normal)
 
 -- In what follows the counts of an outline are at place i, behind its record's kind and id: its corners are behind the counts of its holes.
 

@@ -8,20 +8,20 @@ ghost use Prim.Native.Nat.{_+_, _*_, _<_, _≤_};
 ghost use Rattle.lists.specs.Loops.{join, sumOf};
 ghost use Rattle.fields.specs.Fields.{cornersAt, countsAt, holesAt};
 ghost use Rattle.face.specs.Drawing.{drawing, Drew, Room};
-ghost use Rattle.shapes.specs.Shapes.{wall, walls, holeWalls};
-ghost use Rattle.walls.specs.Outlines.{Near};
+ghost use Rattle.shapes.specs.Shapes.{walls, holeWalls};
+ghost use Rattle.walls.specs.Outlines.{Near, wallBetween};
 use crate::planes::about;
-use coords::Vector;
+use crate::planes::next_place;
 use face::Tally;
-use fields::corner_at;
 use fields::u16_at;
+use geometry::corner_at;
+use object::Corner;
+use vectors::Vector;
 
-// The wall from corner k of the n at `at` to the next.
+// The wall from corner a to corner b.
 fn wall(
-    s: &[u8],
-    at: usize,
-    n: usize,
-    k: usize,
+    a: Corner,
+    b: Corner,
     normal: Vector,
     limit: f32,
     before: u32,
@@ -30,11 +30,9 @@ fn wall(
     ns: &mut [f32],
     is: &mut [u32],
 ) -> Tally
-    requires { ⌜ Near at n × (k < n) × Room before t 4 2 ⌝ }
-    ensures { λ r. ⌜ Drew limit (wall (cornersAt (now (s .entry)) n at) normal k ∷ []) before (drawing t (now (vs .entry)) (now (ns .entry)) (now (is .entry))) (drawing r (now (vs .exit)) (now (ns .exit)) (now (is .exit))) ⌝ }
+    requires { ⌜ Room before t 4 2 ⌝ }
+    ensures { λ r. ⌜ Drew limit (wallBetween a b normal ∷ []) before (drawing t (now (vs .entry)) (now (ns .entry)) (now (is .entry))) (drawing r (now (vs .exit)) (now (ns .exit)) (now (is .exit))) ⌝ }
 {
-    let a = corner_at(s, at + 24 * k);
-    let b = corner_at(s, at + 24 * ((k + 1) % n));
     let p = a.base;
     let q = b.base;
     let out = q.sub(p).cross(normal);
@@ -59,9 +57,12 @@ pub fn walls(
     ensures { λ r. ⌜ Drew limit (walls (cornersAt (now (s .entry)) n at) normal edges) before (drawing t (now (vs .entry)) (now (ns .entry)) (now (is .entry))) (drawing r (now (vs .exit)) (now (ns .exit)) (now (is .exit))) ⌝ }
 {
     let mut t = t;
+    let mut a = corner_at(s, at);
     let mut k = 0;
     while k < edges {
-        t = wall(s, at, n, k, normal, limit, before, t, vs, ns, is);
+        let b = corner_at(s, next_place(at, n, k));
+        t = wall(a, b, normal, limit, before, t, vs, ns, is);
+        a = b;
         k += 1;
     }
     t

@@ -2,25 +2,25 @@
 // it. Corners are read where they lie in the scene's bytes.
 ghost use mathlib.Core.Path.{_≡_};
 ghost use Prim.Native.Nat.{_+_, _*_, _<_};
+ghost use Rattle.lists.specs.Loops.{next};
 ghost use Rattle.fields.specs.Fields.{cornersAt};
-ghost use Rattle.lid.specs.Plane.{areaNormalStep, areaNormal, rise, lidNormal, about};
+ghost use Rattle.lid.specs.Plane.{areaNormal, rise, lidNormal, about};
 ghost use Rattle.walls.specs.Outlines.{pointsAt, Near, PointsNear};
-use coords::Vector;
-use fields::corner_at;
-use fields::point_at;
+use geometry::corner_at;
+use geometry::point_at;
 use plane::area_normal_step;
 use plane::rise_step;
+use vectors::Vector;
 
-// The vector area so far with the edge from point k of the n at `at` to the next.
-fn area_step(s: &[u8], at: usize, n: usize, k: usize, sum: Vector) -> Vector
+// Where corner k + 1 of the n at `at` lies; behind the last one comes the first.
+pub(crate) fn next_place(at: usize, n: usize, k: usize) -> usize
     requires { ⌜ PointsNear at n × (k < n) ⌝ }
-    ensures { λ r. ⌜ r ≡ areaNormalStep (pointsAt (now (s .entry)) n at) k sum ⌝ }
+    ensures { λ r. ⌜ r ≡ at + 24 * next n k ⌝ }
 {
-    let first = point_at(s, at);
-    let p = point_at(s, at + 24 * k);
-    let next = (k + 1) % n;
-    let q = point_at(s, at + 24 * next);
-    area_normal_step(first, p, q, sum)
+    if k + 1 == n {
+        return at;
+    }
+    at + 24 * (k + 1)
 }
 
 // Twice the vector area of n points at `at`, from the first.
@@ -28,6 +28,8 @@ fn area_normal(s: &[u8], at: usize, n: usize) -> Vector
     requires { ⌜ PointsNear at n ⌝ }
     ensures { λ r. ⌜ r ≡ areaNormal (pointsAt (now (s .entry)) n at) ⌝ }
 {
+    let first = point_at(s, at);
+    let mut p = first;
     let mut sum = Vector {
         x: 0.0,
         y: 0.0,
@@ -35,7 +37,9 @@ fn area_normal(s: &[u8], at: usize, n: usize) -> Vector
     };
     let mut k = 0;
     while k < n {
-        sum = area_step(s, at, n, k, sum);
+        let q = point_at(s, next_place(at, n, k));
+        sum = area_normal_step(first, p, q, sum);
+        p = q;
         k += 1;
     }
     sum

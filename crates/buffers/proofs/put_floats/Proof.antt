@@ -1,5 +1,4 @@
 -- `buffers::put_floats` meets its contract: three stores in a row. Assumes nothing.
-use mathlib.Core.Path.{_∙_}
 use Prim.Native.Nat.{_*_}
 use borrow.Author.Needs.{needs}
 use Rattle.lists.proofs.Stores.{sets-three}
@@ -30,7 +29,7 @@ size c = search needs
 returns : tie.Need-returns
 returns c =
     let g = c .before .before .before .before .before .before .before .before .before .before .before .before .before .args in
-    (cc) ∙ sets-three (g .s .now) (3 * g .n) (g .x) (g .y) (g .z)
+    rw (c .before .before .put-float3 .ensures, c .before .before .before .before .before .before .put-float2 .ensures, c .before .before .before .before .before .before .before .before .before .before .put-float .ensures) (sets-three (g .s .now) (3 * g .n) (g .x) (g .y) (g .z))
 
 pub put-floats-spec : {M : Type 1} → statement M
 put-floats-spec = tie.close (tie.spec at put1 next1 put2 next2 put3 size returns)

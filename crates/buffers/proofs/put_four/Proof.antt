@@ -1,5 +1,4 @@
 -- `buffers::put_four` meets its contract. Assumes nothing.
-use mathlib.Core.Path.{_∙_}
 use borrow.Author.Needs.{needs}
 use Rattle.lists.proofs.Stores.{sets-four}
 use Rattle.buffers.proofs.put_four.Statement.{statement}
@@ -33,7 +32,7 @@ returns : tie.Need-returns
 returns c =
     let c₁ = c .before .before .before .before .before .before .before .before .before .before .before .before .before .before .before .before .before in
     let g = c₁ .args in
-    (cc) ∙ sets-four (g .s .now) (g .at) (g .w) (g .x) (g .y) (g .z)
+    rw (c .before .before .put-number4 .ensures, c .before .before .before .before .before .before .put-number3 .ensures, c .before .before .before .before .before .before .before .before .before .before .put-number2 .ensures, c .before .before .before .before .before .before .before .before .before .before .before .before .before .before .put-number .ensures) (sets-four (g .s .now) (g .at) (g .w) (g .x) (g .y) (g .z))
 
 pub put-four-spec : {M : Type 1} → statement M
 put-four-spec =

@@ -1,5 +1,4 @@
 -- `buffers::put_numbers` meets its contract: three stores in a row. Assumes nothing.
-use mathlib.Core.Path.{_∙_}
 use Prim.Native.Nat.{_*_}
 use borrow.Author.Needs.{needs}
 use Rattle.lists.proofs.Stores.{sets-three}
@@ -30,7 +29,7 @@ size c = search needs
 returns : tie.Need-returns
 returns c =
     let g = c .before .before .before .before .before .before .before .before .before .before .before .before .before .args in
-    (cc) ∙ sets-three (g .s .now) (3 * g .n) (g .a) (g .b) (g .c)
+    rw (c .before .before .put-number3 .ensures, c .before .before .before .before .before .before .put-number2 .ensures, c .before .before .before .before .before .before .before .before .before .before .put-number .ensures) (sets-three (g .s .now) (3 * g .n) (g .a) (g .b) (g .c))
 
 pub put-numbers-spec : {M : Type 1} → statement M
 put-numbers-spec = tie.close (tie.spec at put1 next1 put2 next2 put3 size returns)

@@ -10,11 +10,11 @@ returns c = let e = c .before .enum-told .given .1 in (rw e, rw e)
 
 returns-2 : tie.Need-returns-2
 unfolding gathered cornersOf
-returns-2 c = let e = c .before .before .before .before .before .before .before .k .given .1 in (rw e cc, rw e cc)
+returns-2 c = let e = c .before .before .before .before .before .before .before .k .given .1 in (rw (e, c .before .add .ensures), rw (e, c .before .before .before .before .put-numbers .ensures))
 
 returns-3 : tie.Need-returns-3
 unfolding gathered cornersOf
-returns-3 c = let e = c .before .before .before .before .before .before .before .k2 .given .1 in (rw e cc, rw e cc)
+returns-3 c = let e = c .before .before .before .before .before .before .before .k2 .given .1 in (rw (e, c .before .sub .ensures), rw (e, c .before .before .before .before .put-numbers2 .ensures))
 
 pub offer-spec : {M : Type 1} → statement M
 offer-spec =

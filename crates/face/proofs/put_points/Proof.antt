@@ -9,7 +9,7 @@ use lib.ListN.{length, replicate}
 use lib.Seq.{sets}
 use borrow.Author.Needs.{needs}
 use Rattle.coords.specs.Buffers.{vertexNumbers, normalNumbers, verticesIn}
-use Rattle.coords.specs.Coords.{unitZ, normalizeOr}
+use Rattle.vectors.specs.Vectors.{unitZ, normalizeOr}
 use Rattle.face.proofs.put_points.Statement.{statement}
 use Rattle.face.proofs.put_points.Tie as tie
 

@@ -39,13 +39,12 @@ same-drawn : {t t′ : Tally} {o o′ n n′ : ℕ} → t ≡ t′ → o ≡ o�
 same-drawn a b c = λ i. record { tally = a i; offered = b i; entries = c i }
 
 module _ (limit : Float) (sh : Shape) (p : Progress) (vs ns : List Float) (is ls : List ℕ) {d : Drawn} {vs′ ns′ : List Float} {is′ ls′ : List ℕ} where
-  -- what a builder that was lent the tails has drawn stands behind what the buffers hold
-  pub drew-behind : DrewObject limit sh (p .vertices) (tailOf vs (startOf (length vs) (3 * p .vertices))) (tailOf ns (startOf (length ns) (3 * p .vertices)))
+  drew-at-starts : DrewObject limit sh (p .vertices) (tailOf vs (startOf (length vs) (3 * p .vertices))) (tailOf ns (startOf (length ns) (3 * p .vertices)))
       (tailOf is (startOf (length is) (3 * p .kept))) (tailOf ls (startOf (length ls) (4 * p .entries))) d vs′ ns′ is′ ls′
       → DrewBehind limit sh p d vs ns is ls (backOf vs (startOf (length vs) (3 * p .vertices)) vs′) (backOf ns (startOf (length ns) (3 * p .vertices)) ns′)
       (backOf is (startOf (length is) (3 * p .kept)) is′) (backOf ls (startOf (length ls) (4 * p .entries)) ls′)
   unfolding drawn counted drawnOf keptBy thinBy
-  drew-behind r =
+  drew-at-starts r =
       let faces = facesOf sh in
       let tv = tailOf vs (startOf (length vs) (3 * p .vertices)) in
       let tn = tailOf ns (startOf (length ns) (3 * p .vertices)) in
@@ -61,6 +60,12 @@ module _ (limit : Float) (sh : Shape) (p : Progress) (vs ns : List Float) (is ls
         indices = ap (λ (x : Drawing). backOf is (startOf (length is) (3 * p .kept)) (x .indices)) e ∙ lent-back is (3 * p .kept) (w .indices);
         log = ap (λ (x : List ℕ). backOf ls (startOf (length ls) (4 * p .entries)) x) (r .log) ∙ lent-back ls (4 * p .entries) (logNumbers (logOf sh));
       }
+
+  -- what a builder that was lent the tails has drawn stands behind what the buffers hold
+  pub drew-behind : {a b k e : ℕ} → a ≡ startOf (length vs) (3 * p .vertices) → b ≡ startOf (length ns) (3 * p .vertices) → k ≡ startOf (length is) (3 * p .kept)
+      → e ≡ startOf (length ls) (4 * p .entries) → DrewObject limit sh (p .vertices) (tailOf vs a) (tailOf ns b) (tailOf is k) (tailOf ls e) d vs′ ns′ is′ ls′
+      → DrewBehind limit sh p d vs ns is ls (backOf vs a vs′) (backOf ns b ns′) (backOf is k is′) (backOf ls e ls′)
+  drew-behind p₁ p₂ p₃ p₄ r = rw (p₁, p₂, p₃, p₄) (drew-at-starts (rw (p₁, p₂, p₃, p₄) at r))
 
 -- ---- all of it fits
 

@@ -130,7 +130,7 @@ module _ (limit : Float) where
 
   -- ---- what is counted in the end
 
-  mesh-indices : (os : List Object) (v i : ℕ) → length (meshFrom limit v i os .indices) ≡ 3 * sumOf (λ (o : Object). keptBy limit (o .shape)) os
+  pub mesh-indices : (os : List Object) (v i : ℕ) → length (meshFrom limit v i os .indices) ≡ 3 * sumOf (λ (o : Object). keptBy limit (o .shape)) os
   unfolding meshFrom addPiece sumOf
   mesh-indices [] v i = refl
   mesh-indices (o ∷ os) v i =
@@ -138,7 +138,7 @@ module _ (limit : Float) where
       let m = meshFrom limit (v + length (p .vertices)) (i + length (p .indices)) os in
       omega (arith, length-append (p .indices) (m .indices), piece-size limit v o, mesh-indices os (v + length (p .vertices)) (i + length (p .indices)))
 
-  mesh-normals : (os : List Object) (v i : ℕ) → length (meshFrom limit v i os .normals) ≡ length (meshFrom limit v i os .vertices)
+  pub mesh-normals : (os : List Object) (v i : ℕ) → length (meshFrom limit v i os .normals) ≡ length (meshFrom limit v i os .vertices)
   unfolding meshFrom addPiece
   mesh-normals [] v i = refl
   mesh-normals (o ∷ os) v i =

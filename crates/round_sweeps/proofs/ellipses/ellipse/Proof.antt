@@ -4,7 +4,7 @@ use Prim.Native.Nat.{_-_}
 use borrow.Author.Needs.{needs}
 use Rattle.lists.specs.Loops.{list}
 use Rattle.coords.specs.declared.Point.{Point}
-use Rattle.coords.specs.declared.Vector.{Vector}
+use Rattle.vectors.specs.declared.Vector.{Vector}
 use Rattle.coords.specs.Coords.{diff}
 use Rattle.shapes.specs.Shapes.{ellipse, ellipsePoint}
 use Rattle.round_sweeps.proofs.ellipses.ellipse.Statement.{statement}

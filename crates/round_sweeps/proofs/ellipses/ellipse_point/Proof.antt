@@ -2,7 +2,8 @@
 use mathlib.Core.Path.{ap, ap₂, _∙_}
 use Prim.Native.Nat.{_-_}
 use borrow.Author.Needs.{needs}
-use Rattle.coords.specs.Coords.{moved, scale}
+use Rattle.vectors.specs.Vectors.{scale}
+use Rattle.coords.specs.Coords.{moved}
 use Rattle.circle.specs.declared.SinCos.{SinCos}
 use Rattle.shapes.specs.Shapes.{ellipsePoint}
 use Rattle.round_sweeps.proofs.ellipses.ellipse_point.Statement.{statement}

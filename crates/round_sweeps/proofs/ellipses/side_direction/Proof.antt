@@ -2,7 +2,7 @@
 use mathlib.Core.Path.{ap₂, _∙_}
 use Prim.Native.Nat.{_-_}
 use borrow.Author.Needs.{needs}
-use Rattle.coords.specs.Coords.{plus}
+use Rattle.vectors.specs.Vectors.{plus}
 use Rattle.round_sweeps.proofs.ellipses.side_direction.Statement.{statement}
 use Rattle.round_sweeps.proofs.ellipses.side_direction.Tie as tie
 

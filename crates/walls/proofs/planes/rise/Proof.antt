@@ -3,7 +3,7 @@ use mathlib.Core.Path.{_≡_, ap, _∙_}
 use Prim.Native.Nat.{_≤_, _+_, _-_, _*_}
 use native.Mathlib.Omega.{arith}
 use borrow.Author.Needs.{needs}
-use Rattle.coords.specs.Coords.{zeroV}
+use Rattle.vectors.specs.Vectors.{zeroV}
 use Rattle.lid.specs.Plane.{riseStep, rise}
 use Rattle.lists.proofs.Loops.{fold-start, fold-next, fold-end}
 use Rattle.lists.specs.Loops.{list, fold}

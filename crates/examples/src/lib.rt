@@ -1,0 +1,1 @@
+// Stored scenes with the Rust's answers, computed on the definitions: see specs/ and proofs/.

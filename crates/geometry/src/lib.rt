@@ -1,0 +1,147 @@
+// Points, corners, sections and orientations at a place of the scene's bytes; past the end they are
+// zeros.
+ghost use mathlib.Core.Path.{_≡_};
+ghost use mathlib.Core.Bool.{true};
+ghost use Prim.Native.Nat.{_+_, _≤_};
+ghost use lib.ListN.{length};
+ghost use Rattle.fields.specs.Fields.{pointAt, cornerAt, sectionAt, pairAt, orientationAt};
+use coords::Point;
+use fields::f32_at;
+use fields::f32_in;
+use fields::f64_at;
+use object::Corner;
+use object::Orientation;
+use object::Pair;
+use object::Section;
+
+// Whether n bytes from place i on are there.
+fn has_bytes(s: &[u8], i: usize, n: usize) -> bool
+    ensures { λ r. ⌜ (r ≡ true → i + n ≤ length (now (s .entry))) ⌝ }
+{
+    if s.len() <= i {
+        return false;
+    }
+    n <= s.len() - i
+}
+
+fn point_in(s: &[u8], i: usize) -> Point
+    requires { ⌜ i + 12 ≤ length (now s) ⌝ }
+    ensures { λ r. ⌜ r ≡ pointAt (now (s .entry)) i ⌝ }
+{
+    Point {
+        x: f32_in(s, i),
+        y: f32_in(s, i + 4),
+        z: f32_in(s, i + 8),
+    }
+}
+
+fn corner_in(s: &[u8], i: usize) -> Corner
+    requires { ⌜ i + 24 ≤ length (now s) ⌝ }
+    ensures { λ r. ⌜ r ≡ cornerAt (now (s .entry)) i ⌝ }
+{
+    Corner {
+        base: point_in(s, i),
+        top: point_in(s, i + 12),
+    }
+}
+
+const ORIGIN: Point = Point {
+    x: 0.0,
+    y: 0.0,
+    z: 0.0,
+};
+
+const NO_CORNER: Corner = Corner {
+    base: ORIGIN,
+    top: ORIGIN,
+};
+
+const NO_PAIR: Pair = Pair { sin: 0.0, cos: 0.0 };
+
+// A function of its own, so that `point_at` is short enough to be inlined.
+fn point_near_end(s: &[u8], i: usize) -> Point
+    ensures { λ r. ⌜ r ≡ pointAt (now (s .entry)) i ⌝ }
+{
+    if s.len() <= i {
+        return ORIGIN;
+    }
+    Point {
+        x: f32_at(s, i),
+        y: f32_at(s, i + 4),
+        z: f32_at(s, i + 8),
+    }
+}
+
+pub fn point_at(s: &[u8], i: usize) -> Point
+    ensures { λ r. ⌜ r ≡ pointAt (now (s .entry)) i ⌝ }
+{
+    if has_bytes(s, i, 12) {
+        return point_in(s, i);
+    }
+    point_near_end(s, i)
+}
+
+fn corner_near_end(s: &[u8], i: usize) -> Corner
+    ensures { λ r. ⌜ r ≡ cornerAt (now (s .entry)) i ⌝ }
+{
+    if s.len() <= i {
+        return NO_CORNER;
+    }
+    Corner {
+        base: point_near_end(s, i),
+        top: point_near_end(s, i + 12),
+    }
+}
+
+pub fn corner_at(s: &[u8], i: usize) -> Corner
+    ensures { λ r. ⌜ r ≡ cornerAt (now (s .entry)) i ⌝ }
+{
+    if has_bytes(s, i, 24) {
+        return corner_in(s, i);
+    }
+    corner_near_end(s, i)
+}
+
+pub fn section_at(s: &[u8], i: usize) -> Section
+    ensures { λ r. ⌜ r ≡ sectionAt (now (s .entry)) i ⌝ }
+{
+    if s.len() <= i {
+        return Section {
+            left: NO_CORNER,
+            right: NO_CORNER,
+        };
+    }
+    Section {
+        left: corner_at(s, i),
+        right: corner_at(s, i + 24),
+    }
+}
+
+fn pair_at(s: &[u8], i: usize) -> Pair
+    ensures { λ r. ⌜ r ≡ pairAt (now (s .entry)) i ⌝ }
+{
+    if s.len() <= i {
+        return NO_PAIR;
+    }
+    Pair {
+        sin: f64_at(s, i),
+        cos: f64_at(s, i + 8),
+    }
+}
+
+pub fn orientation_at(s: &[u8], i: usize) -> Orientation
+    ensures { λ r. ⌜ r ≡ orientationAt (now (s .entry)) i ⌝ }
+{
+    if s.len() <= i {
+        return Orientation {
+            heading: NO_PAIR,
+            pitch: NO_PAIR,
+            roll: NO_PAIR,
+        };
+    }
+    Orientation {
+        heading: pair_at(s, i),
+        pitch: pair_at(s, i + 16),
+        roll: pair_at(s, i + 32),
+    }
+}

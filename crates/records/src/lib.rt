@@ -1,0 +1,148 @@
+// Checks one record of a scene. No check turns on the id, a solid's volume, whether an outline is
+// closed or which sweep it is, so the contracts hold for each of them.
+ghost use mathlib.Core.Path.{_≡_};
+ghost use mathlib.Core.Bool.{Bool};
+ghost use mathlib.Core.List.{List};
+ghost use Prim.Native.Nat.{ℕ, _+_, _*_, _≤_};
+ghost use lib.ListN.{length};
+ghost use Rattle.lists.specs.Loops.{sumOf};
+ghost use Rattle.object.specs.declared.Extent.{Extent};
+ghost use Rattle.object.specs.declared.Section.{Section};
+ghost use Rattle.object.specs.Object.{Shape};
+ghost use Rattle.fields.specs.Fields.{countsAt};
+ghost use Rattle.scene.specs.Scene.{solidAt, outlineCorners, outlineAt, sweepAt, kindAt, recordAt};
+ghost use Rattle.scene.specs.Answers.{endOf};
+use allowed::all_allowed32;
+use allowed::orientation_allowed;
+use fields::u16_at;
+use fields::u16_in;
+use scene::Refusal;
+use scene::records::RecordEnd;
+
+// A solid with w sizes; its position is at i.
+fn check_solid(s: &[u8], e: usize, i: usize, w: usize) -> RecordEnd
+    requires { ⌜ (i ≤ e) × (e ≤ length (now s)) × (w ≤ 3) ⌝ }
+    ensures { λ r. ⌜ ((id : ℕ) (x : Extent) → r ≡ endOf (solidAt (now (s .entry)) e id i w x)) ⌝ }
+{
+    if e - i < 60 + 4 * w {
+        return RecordEnd::Bad(Refusal::Past);
+    }
+    if !all_allowed32(s, 3, i) {
+        return RecordEnd::Bad(Refusal::Numbers);
+    }
+    if !orientation_allowed(s, i + 12) {
+        return RecordEnd::Bad(Refusal::Numbers);
+    }
+    if !all_allowed32(s, w, i + 60) {
+        return RecordEnd::Bad(Refusal::Numbers);
+    }
+    RecordEnd::At(i + (60 + 4 * w))
+}
+
+// The sum of n counts from place i on.
+pub fn sum_counts(s: &[u8], n: u16, i: usize) -> usize
+    ensures { λ r. ⌜ (r ≡ sumOf (λ k. k) (countsAt (now (s .entry)) n i)) × (r ≤ 65535 * n) ⌝ }
+{
+    if s.len() <= i {
+        return 0;
+    }
+    let mut sum = 0;
+    let mut k = 0;
+    while k < n {
+        sum += u16_at(s, i + 2 * (k as usize)) as usize;
+        k += 1;
+    }
+    sum
+}
+
+// An outline whose counts, at i, are read but for those of its holes.
+fn check_corners(s: &[u8], e: usize, i: usize, outer: u16, holes: u16) -> RecordEnd
+    requires { ⌜ (i + 4 + 2 * holes ≤ e) × (e ≤ length (now s)) × (holes ≤ 32) ⌝ }
+    ensures { λ r. ⌜ ((id : ℕ) (closed : Bool) → r ≡ endOf (outlineCorners (now (s .entry)) e id closed outer (countsAt (now (s .entry)) holes (i + 4)) (i + 4 + 2 * holes))) ⌝ }
+{
+    let n = (outer as usize) + sum_counts(s, holes, i + 4);
+    if 512 < n {
+        return RecordEnd::Bad(Refusal::Counts);
+    }
+    let at = i + 4 + 2 * (holes as usize);
+    if e - at < 24 * n {
+        return RecordEnd::Bad(Refusal::Past);
+    }
+    if !all_allowed32(s, 6 * n, at) {
+        return RecordEnd::Bad(Refusal::Numbers);
+    }
+    RecordEnd::At(at + 24 * n)
+}
+
+// An outline; its counts are at i.
+fn check_outline(s: &[u8], e: usize, i: usize) -> RecordEnd
+    requires { ⌜ (i ≤ e) × (e ≤ length (now s)) ⌝ }
+    ensures { λ r. ⌜ ((id : ℕ) (closed : Bool) → r ≡ endOf (outlineAt (now (s .entry)) e id closed i)) ⌝ }
+{
+    if e - i < 4 {
+        return RecordEnd::Bad(Refusal::Past);
+    }
+    let outer = u16_in(s, i);
+    let holes = u16_in(s, i + 2);
+    if 32 < holes {
+        return RecordEnd::Bad(Refusal::Counts);
+    }
+    if e - i < 4 + 2 * (holes as usize) {
+        return RecordEnd::Bad(Refusal::Past);
+    }
+    check_corners(s, e, i, outer, holes)
+}
+
+// A sweep of either kind; its count is at i.
+fn check_sweep(s: &[u8], e: usize, i: usize) -> RecordEnd
+    requires { ⌜ (i ≤ e) × (e ≤ length (now s)) ⌝ }
+    ensures { λ r. ⌜ ((id : ℕ) (shape : List Section → Shape) → r ≡ endOf (sweepAt (now (s .entry)) e id shape i)) ⌝ }
+{
+    if e - i < 2 {
+        return RecordEnd::Bad(Refusal::Past);
+    }
+    let n = u16_in(s, i);
+    if 4096 < n {
+        return RecordEnd::Bad(Refusal::Counts);
+    }
+    let at = i + 2;
+    let count = n as usize;
+    if e - at < 48 * count {
+        return RecordEnd::Bad(Refusal::Past);
+    }
+    if !all_allowed32(s, 12 * count, at) {
+        return RecordEnd::Bad(Refusal::Numbers);
+    }
+    RecordEnd::At(at + 48 * count)
+}
+
+// What follows the kind and the id.
+fn check_kind(s: &[u8], e: usize, i: usize, kind: u8) -> RecordEnd
+    requires { ⌜ (i ≤ e) × (e ≤ length (now s)) ⌝ }
+    ensures { λ r. ⌜ ((id : ℕ) → r ≡ endOf (kindAt (now (s .entry)) e id i kind)) ⌝ }
+{
+    match kind {
+        0 => check_solid(s, e, i, 0),
+        1 => check_solid(s, e, i, 3),
+        2 => check_solid(s, e, i, 2),
+        3 => check_outline(s, e, i),
+        4 => check_outline(s, e, i),
+        5 => check_sweep(s, e, i),
+        6 => check_sweep(s, e, i),
+        _ => RecordEnd::Bad(Refusal::Kind),
+    }
+}
+
+// The record at i, before the trailer's start e.
+pub fn check_record(s: &[u8], e: usize, i: usize) -> RecordEnd
+    requires { ⌜ e ≤ length (now s) ⌝ }
+    ensures { λ r. ⌜ r ≡ endOf (recordAt (now (s .entry)) e i) ⌝ }
+{
+    if e < i {
+        return RecordEnd::Bad(Refusal::Past);
+    }
+    if e - i < 5 {
+        return RecordEnd::Bad(Refusal::Past);
+    }
+    check_kind(s, e, i + 5, s[i])
+}

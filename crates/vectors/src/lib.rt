@@ -1,0 +1,110 @@
+// Vectors: three f32, by value, with the operations of coords.rs in its order.
+ghost use mathlib.Core.Path.{_≡_};
+ghost use lib.Ieee.{lt};
+ghost use Rattle.vectors.specs.Vectors.{vector, zeroV, plus, less, scale, negate, dot, cross, norm, normalizeOr};
+
+// A displacement between points, or a direction.
+pub struct Vector {
+    pub x: f32,
+    pub y: f32,
+    pub z: f32,
+}
+
+impl Vector {
+    pub fn new(x: f32, y: f32, z: f32) -> Vector
+        ensures { λ r. ⌜ r ≡ vector x y z ⌝ }
+    {
+        Vector { x, y, z }
+    }
+
+    pub fn add(self, other: Vector) -> Vector
+        ensures { λ r. ⌜ r ≡ plus self other ⌝ }
+    {
+        Vector {
+            x: self.x + other.x,
+            y: self.y + other.y,
+            z: self.z + other.z,
+        }
+    }
+
+    pub fn sub(self, v: Vector) -> Vector
+        ensures { λ r. ⌜ r ≡ less self v ⌝ }
+    {
+        Vector {
+            x: self.x - v.x,
+            y: self.y - v.y,
+            z: self.z - v.z,
+        }
+    }
+
+    pub fn scale(self, k: f32) -> Vector
+        ensures { λ r. ⌜ r ≡ scale self k ⌝ }
+    {
+        Vector {
+            x: self.x * k,
+            y: self.y * k,
+            z: self.z * k,
+        }
+    }
+
+    pub fn neg(self) -> Vector
+        ensures { λ r. ⌜ r ≡ negate self ⌝ }
+    {
+        Vector {
+            x: -self.x,
+            y: -self.y,
+            z: -self.z,
+        }
+    }
+
+    pub fn dot(self, other: Vector) -> f32
+        ensures { λ r. ⌜ r ≡ dot self other ⌝ }
+    {
+        self.x * other.x + self.y * other.y + self.z * other.z
+    }
+
+    pub fn cross(self, other: Vector) -> Vector
+        ensures { λ r. ⌜ r ≡ cross self other ⌝ }
+    {
+        Vector {
+            x: self.y * other.z - self.z * other.y,
+            y: self.z * other.x - self.x * other.z,
+            z: self.x * other.y - self.y * other.x,
+        }
+    }
+
+    pub fn length(self) -> f32
+        ensures { λ r. ⌜ r ≡ norm self ⌝ }
+    {
+        roots::sqrt(self.dot(self))
+    }
+
+    // Whether the length is below limit, told by the square: no root is taken.
+    pub fn shorter_than(self, limit: f32) -> bool
+        ensures { λ r. ⌜ r ≡ lt (norm self) limit ⌝ }
+    {
+        signs::shorter(self.dot(self), signs::thin_bound(limit))
+    }
+
+    // At unit length, or fallback where the length is zero or not finite.
+    pub fn normalize_or(self, fallback: Vector) -> Vector
+        ensures { λ r. ⌜ r ≡ normalizeOr self fallback ⌝ }
+    {
+        let len = self.length();
+        if signs::is_finite(len) & (0.0 < len) {
+            self.scale(1.0 / len)
+        } else {
+            fallback
+        }
+    }
+
+    pub fn normalize_or_zero(self) -> Vector
+        ensures { λ r. ⌜ r ≡ normalizeOr self zeroV ⌝ }
+    {
+        self.normalize_or(Vector {
+            x: 0.0,
+            y: 0.0,
+            z: 0.0,
+        })
+    }
+}
