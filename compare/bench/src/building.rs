@@ -16,8 +16,8 @@ struct Line {
 }
 
 pub fn table(only: &str) {
-    println!("| scene | bytes | triangles | Rust ms | Measure ms | Build ms | Measure, allocate, Build ms | Measure / Rust | Build / Rust | all three / Rust |");
-    println!("|---|--:|--:|--:|--:|--:|--:|--:|--:|--:|");
+    println!("| scene | bytes | triangles | Rust ms | Measure ms | Build ms | Build, twice the room, ms | Measure, allocate, Build ms | Measure / Rust | Build / Rust | twice the room / Rust | all three / Rust |");
+    println!("|---|--:|--:|--:|--:|--:|--:|--:|--:|--:|--:|--:|");
     let chosen = families()
         .into_iter()
         .filter(|family| family.name.contains(only));
@@ -38,19 +38,20 @@ fn line(family: Family) -> Line {
     }
 }
 
-fn time(scene: &[u8]) -> [Duration; 4] {
-    let mut sized = buffers(&calls::measure(scene));
+fn time(scene: &[u8]) -> [Duration; 5] {
+    let mut sized = buffers(&calls::measure(scene), 1);
+    let mut roomy = buffers(&calls::measure(scene), 2);
     shortest([
         &mut || timed(|| original(scene)),
         &mut || timed(|| calls::measure(scene)),
         &mut || timed(|| calls::build(scene, &mut sized)),
+        &mut || timed(|| calls::build(scene, &mut roomy)),
         &mut || timed(|| library(scene)),
     ])
 }
 
-fn text(line: &Line, times: [Duration; 4]) -> String {
-    let [rust, measure, build, all] = times;
-    let ratios = [measure, build, all].map(|t| ratio(t, rust)).join(" | ");
+fn text(line: &Line, times: [Duration; 5]) -> String {
+    let ratios = [1, 2, 3, 4].map(|k| ratio(times[k], times[0])).join(" | ");
     let times = times.map(ms).join(" | ");
     let (name, bytes, triangles) = (&line.name, line.scene.len(), line.triangles);
     format!("| {name} | {bytes} | {triangles} | {times} | {ratios} |")
@@ -64,13 +65,14 @@ pub fn original(scene: &[u8]) -> impl Sized {
 }
 
 pub fn library(scene: &[u8]) -> Buffers {
-    let mut lent = buffers(&calls::measure(scene));
+    let mut lent = buffers(&calls::measure(scene), 1);
     calls::build(scene, &mut lent);
     lent
 }
 
-fn buffers(measured: &Answer) -> Buffers {
-    let zeros = |k: usize| vec![0; measured.counts[k] as usize];
+/// So many times as long as measured.
+fn buffers(measured: &Answer, times: usize) -> Buffers {
+    let zeros = |k: usize| vec![0; times * measured.counts[k] as usize];
     Buffers {
         floats: [zeros(0), zeros(1)],
         numbers: [zeros(2), zeros(3), zeros(4), zeros(5)],

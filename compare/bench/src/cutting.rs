@@ -1,5 +1,6 @@
-//! The original's `triangulate` alone. The library does not export its own, so a whole Measure stands
-//! beside it: that cuts each lid once, and reads the scene and judges all faces besides.
+//! The original's `triangulate` alone. The library does not export its own. Beside it stands what a
+//! Measure of the closed outlines takes longer than one of the same outlines left open: that is the
+//! cutting of each lid, once, with the laying flat of its corners and the judging of lid and floor.
 
 use std::time::Duration;
 
@@ -10,15 +11,19 @@ use reference::{build, cut, read_scene};
 use crate::scenes::families;
 use crate::timing::{ms, ratio, shortest, swept, timed};
 
+const OPEN: u8 = 3;
+const CLOSED: u8 = 4;
+
 struct Line {
     name: String,
-    scene: Vec<u8>,
+    closed: Vec<u8>,
+    open: Vec<u8>,
     lids: Vec<Lid>,
 }
 
 pub fn table(only: &str) {
-    println!("| lids of | lids | triangulate ms | Measure, whole, ms | Measure / triangulate |");
-    println!("|---|--:|--:|--:|--:|");
+    println!("| lids of | lids | triangulate ms | Measure, closed, ms | Measure, open, ms | difference ms | difference / triangulate |");
+    println!("|---|--:|--:|--:|--:|--:|--:|");
     let chosen = families()
         .into_iter()
         .filter(|f| f.name.starts_with("ring of 500") && f.name.contains(only));
@@ -29,22 +34,46 @@ pub fn table(only: &str) {
     println!();
 }
 
-fn line(name: String, scene: Vec<u8>) -> Line {
-    let objects = read_scene(&scene).expect("the scene is accepted");
+fn line(name: String, closed: Vec<u8>) -> Line {
+    let objects = read_scene(&closed).expect("the scene is accepted");
     let notes = build(&objects).notes;
     let lids = notes.into_iter().filter_map(|n| n.lid).collect();
-    Line { name, scene, lids }
+    let open = opened(&closed);
+    read_scene(&open).expect("the scene is accepted");
+    Line {
+        name,
+        closed,
+        open,
+        lids,
+    }
 }
 
-fn time(line: &Line) -> [Duration; 2] {
+/// The scene with its closed outlines left open.
+fn opened(scene: &[u8]) -> Vec<u8> {
+    let word = |at: usize| u32::from_le_bytes(scene[at..at + 4].try_into().unwrap()) as usize;
+    let last = scene.len() - 4;
+    let count = word(last);
+    let mut open = scene.to_vec();
+    for k in 0..count {
+        let start = word(last - 4 * (count - k));
+        assert_eq!(open[start], CLOSED);
+        open[start] = OPEN;
+    }
+    open
+}
+
+fn time(line: &Line) -> [Duration; 3] {
     shortest([
         &mut || timed(|| line.lids.iter().map(|l| cut(&l.flat, &l.starts)).collect::<Vec<_>>()),
-        &mut || timed(|| calls::measure(&line.scene)),
+        &mut || timed(|| calls::measure(&line.closed)),
+        &mut || timed(|| calls::measure(&line.open)),
     ])
 }
 
-fn text(line: &Line, times: [Duration; 2]) -> String {
-    let ratio = ratio(times[1], times[0]);
+fn text(line: &Line, times: [Duration; 3]) -> String {
+    let difference = times[1].saturating_sub(times[2]);
+    let ratio = ratio(difference, times[0]);
     let times = times.map(ms).join(" | ");
-    format!("| {} | {} | {times} | {ratio} |", line.name, line.lids.len())
+    let difference = ms(difference);
+    format!("| {} | {} | {times} | {difference} | {ratio} |", line.name, line.lids.len())
 }
