@@ -1,5 +1,6 @@
 #!/usr/bin/env python3
-"""Writes stored scenes and the Rust's answers as the lists at the end of crates/examples/specs/Examples.antt.
+"""Writes stored scenes and the Rust's answers as the lists of crates/computed/specs/Stored.antt and, the
+refused ones, at the end of crates/examples/specs/Examples.antt.
 
   compare/examples.py ANSWERS          prints these lists
 

@@ -15,14 +15,11 @@ use Rattle.scene.specs.Answers.{checkedOf, objectsOf}
 use Rattle.scene.proofs.Walk.{checked-accepted, checked-refused}
 use Rattle.mesh.specs.declared.Validation.{Validation}
 use Rattle.mesh.specs.Validate.{validate}
-use Rattle.pass.specs.declared.Counted.{Counted}
+use Rattle.answers.specs.declared.Counted.{Counted}
 use Rattle.answers.specs.declared.Measured.the-variants.{Refused as NotMeasured, Counts as CountsAre}
 use Rattle.answers.specs.declared.BuiltAnswer.the-variants.{Refused}
-use Rattle.pass.specs.declared.Progress.{Progress}
 use Rattle.scene_mesh.specs.Operations.{Answer, Buffers, Built, output, noCounts, refusedWith, countsOf, done, measureScene, measure, tooShort, overlay, buildOutput, buildScene, build}
-use Rattle.pass.specs.Pass.{AddedAll}
-use Rattle.answers.specs.Answers.{measuredAnswer, builtWith, BuiltAndJudged, judged, buildAndValidate}
-use Rattle.pass.specs.Wrote.{countsFrom}
+use Rattle.answers.specs.Answers.{countsFrom, measuredAnswer, builtWith, BuiltAndJudged, judged, buildAndValidate}
 use Rattle.scene_mesh.specs.Demand3.{LongEnough, measured, Demand3Of}
 use Rattle.scene_mesh.proofs.Demand3.{long-enough, demand3}
 

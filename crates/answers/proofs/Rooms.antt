@@ -2,7 +2,7 @@
 use mathlib.Core.Path.{_≡_}
 use mathlib.Core.Bool.{Bool, true, false, _||_}
 use lib.Dec.{ltb}
-use Rattle.pass.specs.declared.Counted.{Counted}
+use Rattle.answers.specs.declared.Counted.{Counted}
 use Rattle.answers.specs.declared.BuiltAnswer.the-variants.{ShortVertices, ShortIndices, ShortRecords, Complete}
 use Rattle.scene_mesh.specs.Operations.{Counts}
 use Rattle.answers.specs.Answers.{roomFor}

@@ -11,14 +11,20 @@ use Rattle.object.specs.Object.{Object}
 use Rattle.scene.specs.Scene.{numberOf}
 use Rattle.mesh.specs.declared.Validation.{Validation}
 use Rattle.mesh.specs.Validate.{validate}
-use Rattle.pass.specs.declared.Counted.{Counted}
+use Rattle.answers.specs.declared.Counted.{Counted}
+use Rattle.answers.specs.declared.Lengths.{Lengths}
 use Rattle.answers.specs.declared.Measured.{Measured}
 use Rattle.answers.specs.declared.Measured.the-variants.{Refused as NotMeasured, Counts as CountsAre}
 use Rattle.answers.specs.declared.BuiltAnswer.{BuiltAnswer}
 use Rattle.answers.specs.declared.BuiltAnswer.the-variants.{Refused, ShortVertices, ShortIndices, ShortRecords, Complete}
 use Rattle.answers.specs.declared.Answer.{Answer as CAnswer}
-use Rattle.pass.specs.Wrote.{countsFrom}
 use Rattle.scene_mesh.specs.Operations.{Counts, Answer, Buffers, Built, refusedWith, output, countsOf, build}
+
+abbrev pub countsFrom : Counted → Counts
+countsFrom c = record { vertices = c .vertices; normals = c .normals; indices = c .indices; spans = c .spans; account = c .account; log = c .log }
+
+abbrev pub lengthsFrom : Lengths → Counts
+lengthsFrom c = record { vertices = c .vertices; normals = c .normals; indices = c .indices; spans = c .spans; account = c .account; log = c .log }
 
 -- a call that is not refused
 abbrev pub accepts : Counted → Answer

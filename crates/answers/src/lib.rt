@@ -1,12 +1,30 @@
 // What the operations answer: specs/Answers.antt gives document 01's number and values for each case.
 ghost use mathlib.Core.Path.{_≡_};
-ghost use Rattle.scene_mesh.specs.Operations.{Counts};
-ghost use Rattle.answers.specs.Answers.{roomFor, measuredAnswer, builtAnswer, answerNumbers};
-ghost use Rattle.pass.specs.Wrote.{countsFrom};
+ghost use Rattle.float.specs.Number.{minArea};
+ghost use Rattle.answers.specs.Answers.{lengthsFrom, roomFor, measuredAnswer, builtAnswer, answerNumbers};
 use mesh::Validation;
-use pass::Counted;
 use scene::Refusal;
 use scene::refusal_number;
+
+// How many numbers each buffer gets.
+pub struct Counted {
+    pub vertices: u32,
+    pub normals: u32,
+    pub indices: u32,
+    pub spans: u32,
+    pub account: u32,
+    pub log: u32,
+}
+
+// How many numbers each lent buffer holds.
+pub struct Lengths {
+    pub vertices: usize,
+    pub normals: usize,
+    pub indices: usize,
+    pub spans: usize,
+    pub account: usize,
+    pub log: usize,
+}
 
 // What Measure answers: by which row the scene is refused and the object named, or the counts.
 pub enum Measured {
@@ -26,62 +44,42 @@ pub enum BuiltAnswer {
     Complete(Counted),
 }
 
+// How many numbers of the vertices and of the indices Build has written.
+pub struct MeshLengths {
+    pub vertices: usize,
+    pub indices: usize,
+}
+
 // What Build and Validate answer together.
 pub struct JudgedBuild {
     pub answer: BuiltAnswer,
     pub validation: Validation,
 }
 
-pub fn wide(x: u32) -> usize
-    ensures { λ r. ⌜ r ≡ x ⌝ }
+// Twice the area, in square metres, below which a triangle has none worth drawing.
+pub fn min_area() -> f32
+    ensures { λ r. ⌜ r ≡ minArea ⌝ }
 {
-    x as usize
+    0.000001
 }
 
 // Whether buffers of these lengths have room.
-pub fn room(
-    c: Counted,
-    vertices: usize,
-    normals: usize,
-    indices: usize,
-    spans: usize,
-    account: usize,
-    log: usize,
-) -> BuiltAnswer
-    ensures { λ r. ⌜ r ≡ roomFor (record { vertices = vertices; normals = normals; indices = indices; spans = spans; account = account; log = log }) c ⌝ }
+pub fn room(has: Lengths, c: Counted) -> BuiltAnswer
+    ensures { λ r. ⌜ r ≡ roomFor (lengthsFrom has) c ⌝ }
 {
-    if (vertices < wide(c.vertices)) | (normals < wide(c.normals)) {
+    if (has.vertices < c.vertices as usize) | (has.normals < c.normals as usize) {
         return BuiltAnswer::ShortVertices;
     }
-    if indices < wide(c.indices) {
+    if has.indices < c.indices as usize {
         return BuiltAnswer::ShortIndices;
     }
-    if (spans < wide(c.spans)) | (account < wide(c.account)) | (log < wide(c.log)) {
+    if (has.spans < c.spans as usize)
+        | (has.account < c.account as usize)
+        | (has.log < c.log as usize)
+    {
         return BuiltAnswer::ShortRecords;
     }
     BuiltAnswer::Complete(c)
-}
-
-const NO_COUNTS: Counted = Counted {
-    vertices: 0,
-    normals: 0,
-    indices: 0,
-    spans: 0,
-    account: 0,
-    log: 0,
-};
-
-// The counts of an answer: zeros where the call is refused.
-pub fn counts(a: BuiltAnswer) -> Counted
-    ensures { λ r. ⌜ countsFrom r ≡ builtAnswer a .counts ⌝ }
-{
-    match a {
-        BuiltAnswer::Refused(_, _) => NO_COUNTS,
-        BuiltAnswer::ShortVertices => NO_COUNTS,
-        BuiltAnswer::ShortIndices => NO_COUNTS,
-        BuiltAnswer::ShortRecords => NO_COUNTS,
-        BuiltAnswer::Complete(c) => c,
-    }
 }
 
 // The refusal, 0 where there is none, the object named, and the counts.
@@ -150,6 +148,17 @@ impl BuiltAnswer {
             BuiltAnswer::ShortIndices => Answer::refused(9, 0),
             BuiltAnswer::ShortRecords => Answer::refused(10, 0),
             BuiltAnswer::Complete(c) => Answer::counts(c),
+        }
+    }
+
+    // None where the call is refused.
+    pub fn mesh_lengths(self) -> MeshLengths
+        ensures { λ r. ⌜ (r .vertices ≡ builtAnswer self .counts .vertices) × (r .indices ≡ builtAnswer self .counts .indices) ⌝ }
+    {
+        let a = self.numbers();
+        MeshLengths {
+            vertices: a.vertices as usize,
+            indices: a.indices as usize,
         }
     }
 }

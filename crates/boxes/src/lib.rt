@@ -1,13 +1,12 @@
 // The faces of a box: `cuboid` of object_mesh.rs.
 ghost use mathlib.Core.Path.{_≡_};
-ghost use mathlib.Core.List.{[], _∷_};
 ghost use Prim.Native.Nat.{ℕ};
-ghost use lib.ListN.{length};
 ghost use Rattle.float.specs.Number.{zerof, onef};
 ghost use Rattle.object.specs.Object.{frame};
 ghost use Rattle.face.specs.Drawing.{drawing, Drew, Room};
 ghost use Rattle.shapes.specs.Shapes.{onAxis, boxPoint, boxFace, boxSides, box};
-ghost use Rattle.boxes.specs.Axes.{axisOf};
+ghost use Rattle.boxes.specs.Axes.{axisOf, axisNo, depthNo};
+ghost use Rattle.boxes.specs.Quads.{quadOf};
 use coords::Point;
 use face::Tally;
 use object::Orientation;
@@ -27,6 +26,21 @@ enum Axis {
     X,
     Y,
     Z,
+}
+
+// A face of four points: the points in order, and where it faces.
+struct Quad {
+    a: Point,
+    b: Point,
+    c: Point,
+    d: Point,
+    out: Vector,
+}
+
+fn quad_of(a: Point, b: Point, c: Point, d: Point, out: Vector) -> Quad
+    ensures { λ r. ⌜ r ≡ record { a = a; b = b; c = c; d = d; out = out } ⌝ }
+{
+    Quad { a, b, c, d, out }
 }
 
 // The corner at 0 or 1 along each axis, centred across and rising up.
@@ -60,26 +74,16 @@ fn direction(turn: Orientation, axis: Axis) -> Vector
     }
 }
 
-fn box_face(
-    b: Placed,
-    axis: Axis,
-    side: f32,
-    out: Vector,
-    limit: f32,
-    before: u32,
-    t: Tally,
-    vs: &mut [f32],
-    ns: &mut [f32],
-    is: &mut [u32],
-) -> Tally
-    requires { ⌜ Room before t 4 2 ⌝ }
-    ensures { λ r. ⌜ ((part : ℕ) → Drew limit (boxFace (b .origin) (b .turn) (b .length) (b .width) (b .height) (axisOf axis) side out part ∷ []) before (drawing t (now (vs .entry)) (now (ns .entry)) (now (is .entry))) (drawing r (now (vs .exit)) (now (ns .exit)) (now (is .exit)))) ⌝ }
+fn box_face(b: Placed, axis: Axis, side: f32, out: Vector) -> Quad
+    ensures { λ r. ⌜ ((part : ℕ) → quadOf part r ≡ boxFace (b .origin) (b .turn) (b .length) (b .width) (b .height) (axisOf axis) side out part) ⌝ }
 {
-    let p = corner(b, axis, side, 0.0, 0.0);
-    let q = corner(b, axis, side, 1.0, 0.0);
-    let r = corner(b, axis, side, 1.0, 1.0);
-    let s = corner(b, axis, side, 0.0, 1.0);
-    face::quad(p, q, r, s, out, limit, before, t, vs, ns, is)
+    quad_of(
+        corner(b, axis, side, 0.0, 0.0),
+        corner(b, axis, side, 1.0, 0.0),
+        corner(b, axis, side, 1.0, 1.0),
+        corner(b, axis, side, 0.0, 1.0),
+        out,
+    )
 }
 
 // The face along the axis, then the one against it unless the box has no depth here and it lies on
@@ -99,11 +103,38 @@ fn box_sides(
     ensures { λ r. ⌜ ((part : ℕ) → Drew limit (boxSides (b .origin) (b .turn) (b .length) (b .width) (b .height) (axisOf axis) depth part) before (drawing t (now (vs .entry)) (now (ns .entry)) (now (is .entry))) (drawing r (now (vs .exit)) (now (ns .exit)) (now (is .exit)))) ⌝ }
 {
     let out = direction(b.turn, axis);
-    let u = box_face(b, axis, 1.0, out, limit, before, t, vs, ns, is);
+    let p = box_face(b, axis, 1.0, out);
+    let u = face::quad(p.a, p.b, p.c, p.d, p.out, limit, before, t, vs, ns, is);
     if depth == 0.0 {
         return u;
     }
-    box_face(b, axis, 0.0, out.neg(), limit, before, u, vs, ns, is)
+    let q = box_face(b, axis, 0.0, out.neg());
+    face::quad(q.a, q.b, q.c, q.d, q.out, limit, before, u, vs, ns, is)
+}
+
+// The axes by number, and how deep a box is along them.
+fn axis_at(k: u32) -> Axis
+    ensures { λ r. ⌜ axisOf r ≡ axisNo k ⌝ }
+{
+    if k == 0 {
+        return Axis::X;
+    }
+    if k == 1 {
+        return Axis::Y;
+    }
+    Axis::Z
+}
+
+fn depth_at(b: Placed, k: u32) -> f32
+    ensures { λ r. ⌜ r ≡ depthNo b k ⌝ }
+{
+    if k == 0 {
+        return b.length;
+    }
+    if k == 1 {
+        return b.width;
+    }
+    b.height
 }
 
 // A box centred on the origin in plan and rising from it.
@@ -130,7 +161,11 @@ pub fn cuboid(
         width,
         height,
     };
-    let u = box_sides(b, Axis::X, length, limit, before, t, vs, ns, is);
-    let w = box_sides(b, Axis::Y, width, limit, before, u, vs, ns, is);
-    box_sides(b, Axis::Z, height, limit, before, w, vs, ns, is)
+    let mut u = t;
+    let mut k: u32 = 0;
+    while k < 3 {
+        u = box_sides(b, axis_at(k), depth_at(b, k), limit, before, u, vs, ns, is);
+        k = k + 1;
+    }
+    u
 }

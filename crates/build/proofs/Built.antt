@@ -1,4 +1,4 @@
--- What Build answers and leaves, by the room in the lent buffers. Assumes nothing.
+-- What Build plans by the lengths of the lent buffers, and what it answers and leaves. Assumes nothing.
 use mathlib.Core.Path.{_≡_, refl, sym, ap, _∙_, subst}
 use mathlib.Core.Bool.{Bool, true, false, _||_, cond}
 use mathlib.Core.List.{List}
@@ -10,19 +10,26 @@ use lib.Dec.{ltb}
 use lib.Ieee.{Float}
 use borrow.Author.Tests.{ltb-false}
 use Rattle.object.specs.Object.{Object}
-use Rattle.scene.specs.Scene.{accepted}
-use Rattle.pass.specs.declared.Counted.{Counted}
+use Rattle.float.specs.Number.{minArea}
+use Rattle.scene.specs.declared.Refusal.{Refusal}
+use Rattle.scene.specs.declared.scenes.Checked.the-variants.{Refused as CheckedRefused, Accepted}
+use Rattle.scene.specs.Scene.{accepted, scene}
+use Rattle.scene.specs.Answers.{checkedOf}
+use Rattle.answers.specs.declared.Counted.{Counted}
 use Rattle.answers.specs.declared.BuiltAnswer.{BuiltAnswer}
 use Rattle.answers.specs.declared.BuiltAnswer.the-variants.{Refused, ShortVertices, ShortIndices, ShortRecords, Complete}
-use Rattle.scene_mesh.specs.Operations.{Counts, Buffers, output, countsOf, done, tooShort, overlay, buildOutput, buildScene}
-use Rattle.answers.specs.Answers.{builtWith, roomFor}
+use Rattle.scene_mesh.specs.Operations.{Counts, Buffers, output, countsOf, done, tooShort, overlay, buildOutput, buildScene, build}
+use Rattle.answers.specs.Answers.{countsFrom, builtWith, roomFor}
+use Rattle.answers.proofs.Calls.{build-refused, build-accepted}
 use Rattle.answers.proofs.Rooms.{noVertices, noIndices, noRecords}
-use Rattle.pass.specs.Wrote.{countsFrom, stored}
-use Rattle.pass.proofs.Pass.Tails.{sets-over}
+use Rattle.progress.specs.Wrote.{stored, WroteAll}
+use Rattle.progress.proofs.Pass.Tails.{sets-over}
 use Rattle.scene_mesh.specs.Demand3.{LongEnough}
 use Rattle.scene_mesh.proofs.Demand3.{long-enough}
 use Rattle.most.specs.Most.{mostCounts}
 use Rattle.most.proofs.Bounds.{most-enough}
+use Rattle.build.specs.declared.Plan.the-variants.{Refuse, Write}
+use Rattle.build.specs.Plan.{PlanHolds}
 
 -- by the outcomes of the three tests
 abbrev answerBy : Counted → Bool → Bool → Bool → BuiltAnswer
@@ -99,30 +106,47 @@ longer p q = record {
   log = le-trans (q .log) (p .log);
 }
 
-module _ (limit : Float) (os : List Object) (b : Buffers) (c : Counted) (e : countsFrom c ≡ countsOf (output limit os)) where
+module _ (os : List Object) (b : Buffers) (c : Counted) (e : countsFrom c ≡ countsOf (output minArea os)) where
   abbrev w : Buffers
-  w = output limit os
+  w = output minArea os
 
   -- the tests of `roomFor` are those of `tooShort`
   number-is : tooShort (countsOf b) (countsOf w) ≡ numberBy (noVertices (countsOf b) c) (noIndices (countsOf b) c) (noRecords (countsOf b) c)
   unfolding tooShort
   number-is = ap (λ (n : Counts). tooShort (countsOf b) n) (sym e)
 
-  pub built-short : (a : BuiltAnswer) → isComplete a ≡ false → a ≡ roomFor (countsOf b) c → builtWith a b ≡ buildScene limit (accepted os) b
+  built-short : (a : BuiltAnswer) → isComplete a ≡ false → a ≡ roomFor (countsOf b) c → builtWith a b ≡ buildScene minArea (accepted os) b
   unfolding buildScene roomFor
   built-short a s q = short-by w b c a s (noVertices (countsOf b) c) (noIndices (countsOf b) c) (noRecords (countsOf b) c) (sym q) ∙ ap (buildOutput w b) (sym number-is)
 
   -- all objects written into buffers with room for them
-  built-whole : (b′ : Buffers) → LongEnough (countsOf b) (countsOf w) → b′ ≡ stored w b → builtWith (Complete c) b′ ≡ buildScene limit (accepted os) b
+  built-whole : (b′ : Buffers) → LongEnough (countsOf b) (countsOf w) → b′ ≡ stored w b → builtWith (Complete c) b′ ≡ buildScene minArea (accepted os) b
   unfolding buildScene buildOutput countsOf done
   built-whole b′ l r =
       (λ i. record { answer = record { number = 0; object = 0; counts = e i }; buffers = (r ∙ stored-over w b (l .vertices) (l .normals) (l .indices) (l .spans) (l .account) (l .log)) i })
       ∙ ap (buildOutput w b) (sym (long-enough (countsOf b) (countsOf w) l))
 
-  -- measured first
-  pub built-complete : (c′ : Counted) (b′ : Buffers) → Complete c′ ≡ roomFor (countsOf b) c → b′ ≡ stored w b → builtWith (Complete c) b′ ≡ buildScene limit (accepted os) b
-  built-complete c′ b′ q r = built-whole b′ (subst (LongEnough (countsOf b)) e (enough-room (countsOf b) c c′ q)) r
+-- ---- the plan
 
-  -- with room for the most that they can come to
-  pub built-surely : (m m′ : Counted) (b′ : Buffers) → countsFrom m ≡ mostCounts os → Complete m′ ≡ roomFor (countsOf b) m → b′ ≡ stored w b → builtWith (Complete c) b′ ≡ buildScene limit (accepted os) b
-  built-surely m m′ b′ d q r = built-whole b′ (longer (subst (LongEnough (countsOf b)) d (enough-room (countsOf b) m m′ q)) (most-enough limit os)) r
+module _ (s : List ℕ) (has : Counts) where
+  pub plan-refused : (f : Refusal) (object : ℕ) → CheckedRefused f object ≡ checkedOf (scene s) → PlanHolds s has (Refuse (Refused f object))
+  plan-refused f object h = λ b e. build-refused s b f object h
+
+  module _ (n : ℕ) (h : Accepted n ≡ checkedOf (scene s)) (c : Counted) where
+    -- with room for the most that the objects can come to
+    pub plan-surely : ((os : List Object) → scene s ≡ accepted os → countsFrom c ≡ mostCounts os) → (c′ : Counted) → Complete c′ ≡ roomFor has c → PlanHolds s has (Write n)
+    plan-surely k c′ q = (h, λ os e. longer (subst (LongEnough has) (k os e) (enough-room has c c′ q)) (most-enough minArea os))
+
+    module _ (k : (os : List Object) → scene s ≡ accepted os → countsFrom c ≡ countsOf (output minArea os)) where
+      -- measured
+      pub plan-measured : (c′ : Counted) → Complete c′ ≡ roomFor has c → PlanHolds s has (Write n)
+      plan-measured c′ q = (h, λ os e. subst (LongEnough has) (k os e) (enough-room has c c′ q))
+
+      pub plan-short : (a : BuiltAnswer) → isComplete a ≡ false → a ≡ roomFor has c → PlanHolds s has (Refuse a)
+      plan-short a f q = λ b e. build-accepted s b n (builtWith a b) h (λ os r. built-short os b c (k os r) a f (q ∙ ap (λ (x : Counts). roomFor x c) (sym e)))
+
+  pub built-planned : (n : ℕ) (limit : Float) (b b′ : Buffers) (c : Counted) → PlanHolds s has (Write n) → countsOf b ≡ has → limit ≡ minArea
+      → ((os : List Object) → scene s ≡ accepted os → WroteAll limit os c b b′) → builtWith (Complete c) b′ ≡ build s b
+  built-planned n limit b b′ c p e l k =
+      build-accepted s b n (builtWith (Complete c) b′) (p .0)
+      (λ os q. let w = subst (λ (x : Float). WroteAll x os c b b′) l (k os q) in built-whole os b c (w .counts) b′ (subst (λ (x : Counts). LongEnough x (countsOf (output minArea os))) (sym e) (p .1 os q)) (w .buffers))

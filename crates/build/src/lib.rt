@@ -1,87 +1,49 @@
 // Build: tests the room, by the most that the objects can come to or else measured, and then writes.
 ghost use mathlib.Core.Path.{_≡_};
-ghost use mathlib.Core.List.{List};
-ghost use Rattle.float.specs.Number.{minArea};
-ghost use Rattle.object.specs.Object.{Object};
 ghost use Rattle.scene.specs.declared.scenes.Checked.the-variants.{Accepted};
-ghost use Rattle.scene.specs.Scene.{scene, accepted};
+ghost use Rattle.scene.specs.Scene.{scene};
 ghost use Rattle.scene.specs.Answers.{checkedOf};
-ghost use Rattle.scene_mesh.specs.Operations.{buildScene, build};
-ghost use Rattle.pass.specs.Pass.{lent};
-ghost use Rattle.answers.specs.Answers.{builtWith};
+ghost use Rattle.scene_mesh.specs.Operations.{lent, build};
+ghost use Rattle.answers.specs.Answers.{lengthsFrom, builtWith};
+ghost use Rattle.build.specs.Plan.{PlanHolds};
 use answers::BuiltAnswer;
+use answers::Lengths;
+use answers::min_area;
 use answers::room;
-use measure::MIN_AREA;
-use measure::count_objects;
-use most::most_counts;
+use pass::count_objects;
 use pass::write_objects;
 use scene::scenes::Checked;
+use scene_most::most_counts;
 
-// The n objects of an accepted scene, measured before anything is written.
-fn build_measured(
-    s: &[u8],
-    n: u32,
-    vs: &mut [f32],
-    ns: &mut [f32],
-    is: &mut [u32],
-    spans: &mut [u32],
-    account: &mut [u32],
-    log: &mut [u32],
-) -> BuiltAnswer
-    requires { ⌜ Accepted n ≡ checkedOf (scene (now s)) ⌝ }
-    ensures { λ r. ⌜ ((os : List Object) → scene (now (s .entry)) ≡ accepted os → builtWith r (lent (now (vs .exit)) (now (ns .exit)) (now (is .exit)) (now (spans .exit)) (now (account .exit)) (now (log .exit))) ≡ buildScene minArea (accepted os) (lent (now (vs .entry)) (now (ns .entry)) (now (is .entry)) (now (spans .entry)) (now (account .entry)) (now (log .entry)))) ⌝ }
-{
-    let c = count_objects(s, n);
-    match room(
-        c,
-        vs.len(),
-        ns.len(),
-        is.len(),
-        spans.len(),
-        account.len(),
-        log.len(),
-    ) {
-        BuiltAnswer::Complete(_) => {
-            write_objects(s, n, MIN_AREA, vs, ns, is, spans, account, log);
-            BuiltAnswer::Complete(c)
-        }
-        BuiltAnswer::ShortVertices => BuiltAnswer::ShortVertices,
-        BuiltAnswer::ShortIndices => BuiltAnswer::ShortIndices,
-        BuiltAnswer::ShortRecords => BuiltAnswer::ShortRecords,
-        BuiltAnswer::Refused(f, object) => BuiltAnswer::Refused(f, object),
-    }
+// What is to be done before a buffer is touched: refuse, or write so many objects.
+pub enum Plan {
+    Refuse(BuiltAnswer),
+    Write(u32),
 }
 
-// The n objects of an accepted scene. Buffers with room for the most that these can come to are
-// written without measuring: no refusal can follow.
-fn build_objects(
-    s: &[u8],
-    n: u32,
-    vs: &mut [f32],
-    ns: &mut [f32],
-    is: &mut [u32],
-    spans: &mut [u32],
-    account: &mut [u32],
-    log: &mut [u32],
-) -> BuiltAnswer
+// The n objects of an accepted scene. Buffers with room for the most that these can come to need no
+// measuring: no refusal can follow.
+fn plan_objects(s: &[u8], n: u32, has: Lengths) -> Plan
     requires { ⌜ Accepted n ≡ checkedOf (scene (now s)) ⌝ }
-    ensures { λ r. ⌜ ((os : List Object) → scene (now (s .entry)) ≡ accepted os → builtWith r (lent (now (vs .exit)) (now (ns .exit)) (now (is .exit)) (now (spans .exit)) (now (account .exit)) (now (log .exit))) ≡ buildScene minArea (accepted os) (lent (now (vs .entry)) (now (ns .entry)) (now (is .entry)) (now (spans .entry)) (now (account .entry)) (now (log .entry)))) ⌝ }
+    ensures { λ r. ⌜ PlanHolds (now (s .entry)) (lengthsFrom has) r ⌝ }
 {
-    let most = most_counts(s, n);
-    match room(
-        most,
-        vs.len(),
-        ns.len(),
-        is.len(),
-        spans.len(),
-        account.len(),
-        log.len(),
-    ) {
-        BuiltAnswer::Complete(_) => {
-            let written = write_objects(s, n, MIN_AREA, vs, ns, is, spans, account, log);
-            BuiltAnswer::Complete(written)
-        }
-        _ => build_measured(s, n, vs, ns, is, spans, account, log),
+    let most = room(has, most_counts(s, n));
+    if let BuiltAnswer::Complete(_) = most {
+        return Plan::Write(n);
+    }
+    let measured = room(has, count_objects(s, n));
+    if let BuiltAnswer::Complete(_) = measured {
+        return Plan::Write(n);
+    }
+    Plan::Refuse(measured)
+}
+
+fn plan_scene(s: &[u8], has: Lengths) -> Plan
+    ensures { λ r. ⌜ PlanHolds (now (s .entry)) (lengthsFrom has) r ⌝ }
+{
+    match scenes::check_scene(s) {
+        Checked::Refused(f, object) => Plan::Refuse(BuiltAnswer::Refused(f, object)),
+        Checked::Accepted(n) => plan_objects(s, n, has),
     }
 }
 
@@ -96,17 +58,26 @@ pub fn build(
 ) -> BuiltAnswer
     ensures { λ r. ⌜ builtWith r (lent (now (vertices .exit)) (now (normals .exit)) (now (indices .exit)) (now (spans .exit)) (now (account .exit)) (now (log .exit))) ≡ build (now (s .entry)) (lent (now (vertices .entry)) (now (normals .entry)) (now (indices .entry)) (now (spans .entry)) (now (account .entry)) (now (log .entry))) ⌝ }
 {
-    match scenes::check_scene(s) {
-        Checked::Refused(f, object) => BuiltAnswer::Refused(f, object),
-        Checked::Accepted(n) => build_objects(
+    let has = Lengths {
+        vertices: vertices.len(),
+        normals: normals.len(),
+        indices: indices.len(),
+        spans: spans.len(),
+        account: account.len(),
+        log: log.len(),
+    };
+    match plan_scene(s, has) {
+        Plan::Refuse(a) => a,
+        Plan::Write(n) => BuiltAnswer::Complete(write_objects(
             s,
             n,
+            min_area(),
             vertices,
             normals,
             indices,
             spans,
             account,
             log,
-        ),
+        )),
     }
 }

@@ -21,75 +21,7 @@ use shapes::NOTHING;
 use solids::solid;
 use sweeps::sweep;
 
-// Only outlines have a log: what is drawn of the others holds of any.
-
-// A solid whose position is at i.
-fn draw_solid(
-    s: &[u8],
-    i: usize,
-    extent: Extent,
-    limit: f32,
-    before: u32,
-    vs: &mut [f32],
-    ns: &mut [f32],
-    is: &mut [u32],
-) -> Drawn
-    requires { ⌜ before ≤ 33554432 ⌝ }
-    ensures { λ r. ⌜ ((log : List ℕ) → DrewObject limit (solid (pointAt (now (s .entry)) i) (orientationAt (now (s .entry)) (i + 12)) extent) before (now (vs .entry)) (now (ns .entry)) (now (is .entry)) log r (now (vs .exit)) (now (ns .exit)) (now (is .exit)) log) ⌝ }
-{
-    let tally = solid(s, i, extent, limit, before, NOTHING, vs, ns, is);
-    Drawn {
-        tally,
-        offered: solid_price(extent),
-        entries: 0,
-    }
-}
-
-// A sweep of n sections at `at`.
-fn draw_sweep(
-    s: &[u8],
-    at: usize,
-    n: usize,
-    limit: f32,
-    before: u32,
-    vs: &mut [f32],
-    ns: &mut [f32],
-    is: &mut [u32],
-) -> Drawn
-    requires { ⌜ (at + 48 * n ≤ length (now s)) × (n ≤ 4096) × (before ≤ 33554432) ⌝ }
-    ensures { λ r. ⌜ ((log : List ℕ) → DrewObject limit (sweep (sectionsAt (now (s .entry)) n at)) before (now (vs .entry)) (now (ns .entry)) (now (is .entry)) log r (now (vs .exit)) (now (ns .exit)) (now (is .exit)) log) ⌝ }
-{
-    let tally = sweep(s, at, n, limit, before, NOTHING, vs, ns, is);
-    Drawn {
-        tally,
-        offered: sweep_price(s, at, n),
-        entries: 0,
-    }
-}
-
-// A round sweep of n sections at `at`.
-fn draw_round_sweep(
-    s: &[u8],
-    at: usize,
-    n: usize,
-    limit: f32,
-    before: u32,
-    vs: &mut [f32],
-    ns: &mut [f32],
-    is: &mut [u32],
-) -> Drawn
-    requires { ⌜ (at + 48 * n ≤ length (now s)) × (n ≤ 4096) × (before ≤ 33554432) ⌝ }
-    ensures { λ r. ⌜ ((log : List ℕ) → DrewObject limit (roundSweep (sectionsAt (now (s .entry)) n at)) before (now (vs .entry)) (now (ns .entry)) (now (is .entry)) log r (now (vs .exit)) (now (ns .exit)) (now (is .exit)) log) ⌝ }
-{
-    let tally = round_sweep(s, at, n, limit, before, NOTHING, vs, ns, is);
-    Drawn {
-        tally,
-        offered: round_sweep_price(n),
-        entries: 0,
-    }
-}
-
-// n sections at `at`, as a sweep or a round one.
+// n sections at `at`, as a sweep or a round one: they have no log, so what is drawn holds of any.
 fn draw_sections(
     s: &[u8],
     at: usize,
@@ -105,9 +37,19 @@ fn draw_sections(
     ensures { λ r. ⌜ ((log : List ℕ) → DrewObject limit (cond round (roundSweep (sectionsAt (now (s .entry)) n at)) (sweep (sectionsAt (now (s .entry)) n at))) before (now (vs .entry)) (now (ns .entry)) (now (is .entry)) log r (now (vs .exit)) (now (ns .exit)) (now (is .exit)) log) ⌝ }
 {
     if round {
-        return draw_round_sweep(s, at, n, limit, before, vs, ns, is);
+        let tally = round_sweep(s, at, n, limit, before, NOTHING, vs, ns, is);
+        return Drawn {
+            tally,
+            offered: round_sweep_price(n),
+            entries: 0,
+        };
     }
-    draw_sweep(s, at, n, limit, before, vs, ns, is)
+    let tally = sweep(s, at, n, limit, before, NOTHING, vs, ns, is);
+    Drawn {
+        tally,
+        offered: sweep_price(s, at, n),
+        entries: 0,
+    }
 }
 
 // The object whose record's body is at i, drawn from the start of the lent buffers; `before` vertices
@@ -127,24 +69,23 @@ pub fn draw(
     ensures { λ r. ⌜ DrewObject limit (shapeOf (now (s .entry)) i body) before (now (vs .entry)) (now (ns .entry)) (now (is .entry)) (now (log .entry)) r (now (vs .exit)) (now (ns .exit)) (now (is .exit)) (now (log .exit)) ⌝ }
 {
     match body {
-        Body::Solid(extent) => draw_solid(s, i, extent, limit, before, vs, ns, is),
+        Body::Solid(extent) => {
+            let offered = solid_price(extent);
+            let tally = solid(s, i, extent, limit, before, NOTHING, vs, ns, is);
+            Drawn {
+                tally,
+                offered,
+                entries: 0,
+            }
+        }
         Body::Outline {
             closed,
             outer,
             holes,
         } => { outline(s, i, closed, outer, holes, limit, before, vs, ns, is, log) }
         Body::Sweep { round, sections } => {
-            draw_sections(
-                s,
-                i + 2,
-                round,
-                sections as usize,
-                limit,
-                before,
-                vs,
-                ns,
-                is,
-            )
+            let n = sections as usize;
+            draw_sections(s, i + 2, round, n, limit, before, vs, ns, is)
         }
     }
 }

@@ -2,11 +2,12 @@
 use mathlib.Core.Path.{_≡_, refl, ap}
 use mathlib.Core.Bool.{Bool, true, false}
 use mathlib.Core.List.{List, [], _∷_}
-use Prim.Native.Nat.{ℕ, zero, suc, _+_, _<_}
+use Prim.Native.Nat.{ℕ, zero, suc, _+_, _<_, _≤_}
 use native.Mathlib.Nat.{le-of-suc-le-suc, not-suc-le-zero}
 use native.Mathlib.Numerals.{add-one}
 use native.Mathlib.Omega.{arith}
-use lib.ListN.{length, getD, take, set}
+use lib.ListN.{length, getD, take, drop, set, drop-of-length-le}
+use lib.Seq.{drop-cons}
 use lib.Ieee.{lt}
 use Rattle.lists.specs.Loops.{every, removeAt}
 use Rattle.float.specs.Number.{zerof}
@@ -14,7 +15,7 @@ use Rattle.lid.specs.declared.Flat.{Flat}
 use Rattle.lid.specs.declared.Corners.{Corners}
 use Rattle.lid.specs.Rings.{corner, turn, turnOf}
 use Rattle.lid.specs.Clipping.{before, here, after, clear, isEar}
-use Rattle.ears.specs.Notes.{NoEar, unturned, blocked}
+use Rattle.ears.specs.Ears.{NoEar, unturned, blocked}
 use Rattle.lid.specs.Steps.{cornersOf, clearBy}
 
 -- ---- the test of one place
@@ -35,3 +36,14 @@ module _ (fs : List Flat) (ring : List ℕ) (i : ℕ) (t : Corners) (a b c : Fla
 
   pub tells-unturned : (q : ℕ) → lt zerof (turn a b c) ≡ false → NoEar fs ring i q
   tells-unturned q h = unturned (turns false h)
+
+-- ---- a test of the elements from k on
+
+module _ {A : Type 0} (p : A → Bool) (l : List A) (k : ℕ) where
+  pub every-next : (d : A) (t : Bool) → k < length l → p (getD l k d) ≡ true → every p (drop k l) ≡ t → every p (drop (k + 1) l) ≡ t
+  unfolding every
+  every-next d t h e q = rw add-one (rw (drop-cons l k d, e) at q)
+
+  pub every-end : (t : Bool) → length l ≤ k → every p (drop k l) ≡ t → true ≡ t
+  unfolding every
+  every-end t h q = rw (drop-of-length-le l h) at q

@@ -1,3 +1,2 @@
 pub mod ClipLaws
-pub mod ClipRun
-pub mod NoteLaws
+pub mod EarLaws

@@ -1,1 +1,2 @@
-// Stored scenes with the Rust's answers, computed on the definitions: see specs/ and proofs/.
+// Stored scenes that are refused, with document 01's answers, computed on the definitions: see specs/
+// and proofs/.

@@ -19,6 +19,10 @@ use Rattle.face.specs.Drawing.{tally, Drawing, drawing, counted, drawn, 
 use Rattle.face.proofs.Counts.{count, faces-account}
 use Rattle.face.proofs.Written.{write-size}
 
+-- less room in what room there is
+pub room-less : {before : ℕ} {t : Tally} {v k w j : ℕ} → Room before t w j → v ≤ w → k ≤ j → Room before t v k
+room-less r p q = record { vertices = omega (arith, r .vertices); kept = omega (arith, r .kept); thin = omega (arith, r .thin) }
+
 pub same-drawing : {t t′ : Tally} {vs vs′ ns ns′ : List Float} {is is′ : List ℕ} → t ≡ t′ → vs ≡ vs′ → ns ≡ ns′ → is ≡ is′ → drawing t vs ns is ≡ drawing t′ vs′ ns′ is′
 same-drawing a b c d = cc
 

@@ -1,24 +1,23 @@
 -- The triangles of a face offered one after the other: what they come to is what specs/Faces.antt says of the whole list. Assumes nothing.
 use mathlib.Core.Path.{_≡_, refl, sym, ap, _∙_}
-use Prim.Native.Nat.{ℕ, suc, _+_, _*_, _<_}
-use native.Mathlib.Nat.{add-zero, zero-add}
+use Prim.Native.Nat.{ℕ, suc, _+_, _*_}
+use native.Mathlib.Nat.{add-zero}
 use native.Mathlib.Omega.{arith}
 use mathlib.Core.Bool.{Bool, true, false, cond}
 use mathlib.Core.List.{List, [], _∷_, _++_}
 use lib.ListN.{length}
 use lib.Seq.{sets}
 use lib.Ieee.{Float}
-use Rattle.lists.specs.Loops.{list, join, fold, countOf}
-use Rattle.lists.specs.Each.{Each}
-use Rattle.lists.proofs.Lists.{each-at, getD-list, length-list}
+use Rattle.lists.specs.Loops.{join, fold, countOf}
 use Rattle.lists.proofs.Stores.{sets-append}
 use Rattle.coords.specs.declared.Point.{Point}
 use Rattle.vectors.specs.declared.Vector.{Vector}
-use Rattle.face.specs.declared.Side.{Side}
-use Rattle.face.specs.declared.Side.the-variants.{Thin, Front, Back}
-use Rattle.face.specs.declared.Sum.{Sum}
-use Rattle.face.specs.Faces.{Triangle, triangle, TriangleLow, normal, isThin, isTurned, facing, keptFrom, addNormal, normalFrom, numbered}
-use Rattle.face.specs.Offered.{sideOf, sideIn, cornersOf, gathered, Offered, offered, offerOne}
+use Rattle.offering.specs.declared.Side.{Side}
+use Rattle.offering.specs.declared.Side.the-variants.{Thin, Front, Back}
+use Rattle.offering.specs.declared.Sum.{Sum}
+use Rattle.offering.specs.Triangles.{Triangle, triangle}
+use Rattle.face.specs.Faces.{normal, isThin, isTurned, facing, keptFrom, addNormal, normalFrom, numbered}
+use Rattle.offering.specs.Offered.{sideOf, sideIn, cornersOf, gathered, Offered, offered, offerOne}
 
 abbrev sums : Vector → ℕ → ℕ → Sum
 sums v kept thin = record { normal = v; kept = kept; thin = thin }
@@ -33,27 +32,11 @@ more-behind l n k a b c w = ap (λ (i : ℕ). sets (sets l (3 * (n + k)) (a ∷ 
     place : 3 * (n + (k + 1)) ≡ 3 * (n + k) + 3
     place = omega arith
 
--- each triangle counts once
-gathered-one : (k : Side) (s : Sum) → gathered k s .kept + gathered k s .thin ≡ s .kept + s .thin + 1
-unfolding gathered
-gathered-one Thin s = omega arith
-gathered-one (Front n) s = omega arith
-gathered-one (Back n) s = omega arith
-
--- a triangle among those of a face
-pub low-at : (n : ℕ) (f : ℕ → Triangle) (m j : ℕ) → j < m → Each (TriangleLow n) (list f m 0) → TriangleLow n (f j)
-low-at n f m j h e =
-    rw (zero-add) at (rw (getD-list f m 0 j (f 0) h) at (each-at (TriangleLow n) (list f m 0) j (f 0) (rw length-list h) e))
-
 -- a side by its two tests
 sideBy : Bool → Bool → Vector → Side
 sideBy thin turned n = cond thin Thin (cond turned (Back n) (Front n))
 
 module _ (limit : Float) (ps : List Point) (out : Vector) (base n : ℕ) where
-  pub one-counted : (o p : Offered) (t : Triangle) → p ≡ offerOne limit ps out base n o t → p .sum .kept + p .sum .thin ≡ o .sum .kept + o .sum .thin + 1
-  unfolding offerOne
-  one-counted o p t e = rw e (gathered-one (sideIn limit ps out t) (o .sum))
-
   -- what the triangles ts add to o
   unfoldable pub added : Offered → List Triangle → Offered
   added o ts =

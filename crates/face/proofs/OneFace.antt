@@ -16,7 +16,8 @@ use Rattle.coords.specs.Buffers.{vertexNumbers, normalNumbers, verticesIn}
 use Rattle.buffers.proofs.Vertices.{length-vertices}
 use Rattle.face.specs.declared.Tally.{Tally}
 use Rattle.face.specs.Faces.{Triangle, triangle, Face, thinIn, keptOf, faceNormal, nothing, behind, numbered, writeKept, writeFace, writeFaces}
-use Rattle.face.specs.Offered.{triangleRecord, triangleAt, trianglesIn, Offered, offered, noSum, offerAll}
+use Rattle.offering.specs.Triangles.{triangleRecord, triangleAt, trianglesIn}
+use Rattle.offering.specs.Offered.{Offered, offered, noSum, offerAll}
 use Rattle.face.specs.Drawing.{tally, Drawing, drawing, counted, drawn, Drew, faceIn}
 use Rattle.face.proofs.Counts.{face-account}
 use Rattle.face.proofs.Offers.{added, offered-all}

@@ -10,7 +10,7 @@ use Rattle.vectors.specs.declared.Vector.{Vector}
 use Rattle.coords.specs.Buffers.{vertexNumbers, normalNumbers, verticesIn}
 use Rattle.face.specs.declared.Tally.{Tally}
 use Rattle.face.specs.Faces.{Face, thinIn, keptOf, writeFaces}
-use Rattle.face.specs.Offered.{trianglesIn}
+use Rattle.offering.specs.Triangles.{trianglesIn}
 
 abbrev pub tally : ℕ → ℕ → ℕ → Tally
 tally vertices kept thin = record { vertices = vertices; kept = kept; thin = thin }

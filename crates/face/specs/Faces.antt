@@ -1,5 +1,5 @@
 -- Document 01, section 4: a face, which of its triangles are thin, kept and turned, and what it writes.
-use Prim.Native.Nat.{ℕ, _+_, _-_, _<_}
+use Prim.Native.Nat.{ℕ, _+_, _-_}
 use mathlib.Core.Bool.{Bool, cond}
 use mathlib.Core.List.{List, [], _∷_, _++_}
 use lib.ListN.{length, getD, replicate}
@@ -11,15 +11,7 @@ use Rattle.coords.specs.declared.Point.{Point}
 use Rattle.vectors.specs.declared.Vector.{Vector}
 use Rattle.vectors.specs.Vectors.{zeroV, unitZ, plus, less, dot, cross, norm, normalizeOr}
 use Rattle.coords.specs.Coords.{origin, diff}
-
--- three corners, each the number of one of the face's points
-pub record Triangle : Type 0 where
-  pub a : ℕ
-  pub b : ℕ
-  pub c : ℕ
-
-abbrev pub triangle : ℕ → ℕ → ℕ → Triangle
-triangle i j k = record { a = i; b = j; c = k }
+pub use Rattle.offering.specs.Triangles.{Triangle, triangle, TriangleLow}
 
 -- `part` names the part of the object that the face belongs to: 1 walls and sides, 2 lid, 3 floor, 4 caps, 11 to 16 a box's faces
 pub record Face : Type 0 where
@@ -28,10 +20,7 @@ pub record Face : Type 0 where
   pub out : Vector
   pub part : ℕ
 
--- the corner numbers of a face's triangles are numbers of its points
-abbrev pub TriangleLow : ℕ → Triangle → Type 0
-TriangleLow n t = (t .a < n) × (t .b < n) × (t .c < n)
-
+-- the corner numbers of its triangles are numbers of its points
 abbrev pub FaceLow : Face → Type 0
 FaceLow f = Each (TriangleLow (length (f .points))) (f .triangles)
 

@@ -1,3 +1,2 @@
 pub mod Faces
-pub mod Offered
 pub mod Drawing

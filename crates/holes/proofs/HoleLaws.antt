@@ -1,26 +1,24 @@
--- The holes by their numbers: where their corners start, and their order, as the code's loops meet them. Assumes nothing.
+-- The holes by their numbers: where their corners start, and what is found of them, as the code's loops meet them. Assumes nothing.
 use mathlib.Core.Path.{_≡_, refl, sym, ap, ap₂, _∙_}
 use mathlib.Core.Bool.{Bool, true, false, cond}
-use mathlib.Core.List.{List, [], _∷_, _++_, append-assoc}
+use mathlib.Core.List.{List, [], _∷_, _++_, append-nil}
 use Prim.Native.Nat.{ℕ, suc, _+_, _-_, _<_, _≤_}
-use native.Mathlib.Nat.{add-zero}
+use native.Mathlib.Nat.{add-zero, le-refl}
 use native.Mathlib.Numerals.{add-one}
 use native.Mathlib.Omega.{arith}
-use lib.ListN.{length, getD, take, drop, drop-of-length-le, take-append-drop, length-append, length-drop, set}
-use lib.Seq.{take-suc, drop-cons, take-take, length-take-le}
-use lib.Ieee.{Float}
+use lib.ListN.{length, getD, take, drop, drop-of-length-le, take-append-drop, set}
+use lib.Seq.{take-suc, take-all, drop-cons, length-take-le}
 use Rattle.lists.specs.Loops.{list, sumOf}
-use Rattle.lists.proofs.Lists.{sum-append}
+use Rattle.lists.proofs.Lists.{sum-append, length-list}
 use Rattle.lists.proofs.Loops.{list-step}
-use Rattle.float.specs.Number.{zerof}
-use Rattle.float.specs.Signs.{totalLess}
 use Rattle.lid.specs.declared.Flat.{Flat}
 use Rattle.lid.specs.Log.{Entry, entry}
 use Rattle.lid.specs.Rings.{tooSmall, turnHole}
 use Rattle.lid.specs.Written.{cornerTotal}
-use Rattle.lid.specs.Steps.{insertAt, turned}
-use Rattle.holes.specs.Holes.{startOf, holeCorners, skips, insertBy, orderStep, Ordered}
-use Rattle.ring.proofs.RingLaws.{up, fill-next, fill-end}
+use Rattle.lid.specs.Steps.{turned}
+use Rattle.holes.specs.Holes.{startOf, holeCorners, skips}
+use Rattle.lid.proofs.Areas.Lid.{turnHole-length}
+use Rattle.ring.proofs.RingLaws.{up, fill-next}
 use Rattle.splicing.proofs.SpliceLaws.{front-back}
 
 -- ---- where a hole's corners start
@@ -35,6 +33,10 @@ module _ (outer : ℕ) (counts : List ℕ) where
   start-next k h =
       ap (λ (l : List ℕ). outer + sumOf (λ n. n) l) (ap (λ (n : ℕ). take n counts) (add-one k) ∙ take-suc counts k 0 h)
       ∙ omega (arith, sum-append (λ n. n) (take k counts) (getD counts k 0 ∷ []))
+
+  pub start-last : startOf outer counts (length counts) ≡ cornerTotal outer counts
+  unfolding startOf
+  start-last = ap (λ (l : List ℕ). outer + sumOf (λ n. n) l) (take-all (length counts) counts (le-refl (length counts)))
 
   start-low : (k : ℕ) → startOf outer counts k ≤ cornerTotal outer counts
   unfolding startOf
@@ -60,6 +62,10 @@ module _ (outer : ℕ) (counts : List ℕ) where
         → take h (x ++ drop h hole) ≡ turnHole fs (holeCorners outer counts g)
     hole-written x same e = front-back hole x h h refl fits same ∙ e ∙ ap (turnHole fs) corners-are
 
+pub hole-size : (fs : List Flat) (outer : ℕ) (counts : List ℕ) (g : ℕ) → length (turnHole fs (holeCorners outer counts g)) ≡ getD counts g 0
+unfolding holeCorners
+hole-size fs outer counts g = turnHole-length fs (holeCorners outer counts g) ∙ length-list (λ i. i) (getD counts g 0) _
+
 -- ---- the entries of skipped holes
 
 pub skips-cons : (g : ℕ) (l : List Bool) (k : ℕ) → k < length l → skips g (drop k l) ≡ skips g (getD l k false ∷ []) ++ skips (g + 1) (drop (k + 1) l)
@@ -79,44 +85,6 @@ unfolding skips
 skips-few g true = omega arith
 skips-few g false = omega arith
 
--- ---- a hole's place in joining order
-
-module _ (rights : List Float) (g : ℕ) (order t : List ℕ) (i : ℕ) (inv : take i order ++ insertBy rights g (drop i order) ≡ t) where
-  pub place-here : i < length order → totalLess (getD rights (getD order i 0) zerof) (getD rights g zerof) ≡ true → insertAt i g order ≡ t
-  unfolding insertBy insertAt
-  place-here h e = rw (drop-cons order i 0) (rw (drop-cons order i 0, e) at inv)
-
-  pub place-next : i < length order → totalLess (getD rights (getD order i 0) zerof) (getD rights g zerof) ≡ false
-      → take (i + 1) order ++ insertBy rights g (drop (i + 1) order) ≡ t
-  unfolding insertBy
-  place-next h e =
-      let p : take i order ++ getD order i 0 ∷ insertBy rights g (drop (suc i) order) ≡ t = rw (drop-cons order i 0, e) at inv in
-      rw (add-one, take-suc order i 0 h) (append-assoc (take i order) (getD order i 0 ∷ []) (insertBy rights g (drop (suc i) order)) ∙ p)
-
-  pub place-end : length order ≤ i → insertAt i g order ≡ t
-  unfolding insertBy insertAt
-  place-end h = rw (drop-of-length-le order h) (rw (drop-of-length-le order h) at inv)
-
-insert-long : (i v : ℕ) (l : List ℕ) → i ≤ length l → length (insertAt i v l) ≡ length l + 1
-unfolding insertAt
-insert-long i v l h = length-append (take i l) (v ∷ drop i l) ∙ omega (arith, length-take-le i l h, length-drop i l)
-
-module _ (rights : List Float) (small : List Bool) (g : ℕ) (buffer : List ℕ) (c : ℕ) (room : c < length buffer) where
-  pub order-skip : getD small g false ≡ true → Ordered (orderStep rights small g (take c buffer)) buffer c
-  order-skip e = record { stands = rw e; holes = rw e (sym (length-take-le c buffer (omega arith))) }
-
-  pub order-put : (p : ℕ) (x : List ℕ) → getD small g false ≡ false → p ≤ length (take c buffer) → insertAt p g (take c buffer) ≡ insertBy rights g (take c buffer)
-      → length x ≡ length (take (c + 1) buffer) → x ≡ insertAt p g (take (length (take (c + 1) buffer) - 1) (take (c + 1) buffer))
-      → Ordered (orderStep rights small g (take c buffer)) (x ++ drop (c + 1) buffer) (c + 1)
-  order-put p x e low place same put =
-      let long : length (take (c + 1) buffer) ≡ c + 1 = length-take-le (c + 1) buffer (omega arith) in
-      let short : length (take (c + 1) buffer) - 1 ≡ c = omega arith in
-      let is : x ≡ insertAt p g (take c buffer) = put ∙ ap (insertAt p g) (ap (λ (n : ℕ). take n (take (c + 1) buffer)) short ∙ take-take c (c + 1) buffer (omega arith)) in
-      record {
-        stands = rw e (front-back buffer x (c + 1) (c + 1) refl (omega arith) same ∙ is ∙ place);
-        holes = rw e (sym long ∙ sym same ∙ ap length (is ∙ place));
-      }
-
 -- ---- a buffer that gets the values of f, place by place
 
 module _ {A : Type 0} (f : ℕ → A) (l : List A) (n k : ℕ) (inv : take k l ++ list f (n - k) k ≡ list f n 0) where
@@ -125,6 +93,9 @@ module _ {A : Type 0} (f : ℕ → A) (l : List A) (n k : ℕ) (inv : take k l +
       fill-next l k v (list f (n - (k + 1)) (k + 1)) (list f n 0) room
       (rw (e, add-one k) (ap (λ (r : List A). take k l ++ r) (sym (list-step f n k h)) ∙ inv))
 
-  pub list-put-end : n ≤ k → length l ≤ k → l ≡ list f n 0
+  pub list-put-end : n ≤ k → k ≤ n → take n l ≡ list f n 0
   unfolding list
-  list-put-end h over = let e : n - k ≡ 0 = omega arith in fill-end l k (list f n 0) over (rw e at inv)
+  list-put-end h low =
+      let none : n - k ≡ 0 = omega arith in
+      let all : n ≡ k = omega arith in
+      ap (λ (i : ℕ). take i l) all ∙ sym (append-nil (take k l)) ∙ (rw none at inv)

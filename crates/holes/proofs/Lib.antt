@@ -1,3 +1,1 @@
 pub mod HoleLaws
-pub mod JoinLaws
-pub mod OrderLaws

@@ -1,114 +1,39 @@
--- The lid of an outline from the corners laid flat, its triangles in a buffer, and its price. Assumes nothing.
+-- A lid's triangles in a buffer, and its bounds. Assumes nothing.
 use mathlib.Core.Path.{_≡_, refl, sym, ap, ap₂, subst, _∙_}
-use mathlib.Core.Bool.{Bool, true, false, cond}
-use Prim.Native.Nat.{ℕ, zero, suc, _+_, _-_, _*_, _/_, _<_, _≤_}
-use native.Mathlib.Nat.{zero-add, add-zero}
+use mathlib.Core.Bool.{Bool}
+use Prim.Native.Nat.{ℕ, suc, _+_, _-_, _*_, _/_, _<_, _≤_}
 use native.Mathlib.Omega.{arith}
-use mathlib.Core.List.{List, [], _∷_, _++_, map}
+use mathlib.Core.List.{List, [], _∷_, map}
 use lib.Dec.{lit<}
-use lib.ListN.{length, getD, take}
-use lib.Seq.{sets, ext-getD}
+use lib.ListN.{length, take}
+use lib.Seq.{sets}
 use lib.Ieee.{Float}
 use Rattle.lists.specs.Each.{Each}
-use Rattle.lists.specs.Loops.{list, join, sumOf}
-use Rattle.lists.proofs.Lists.{length-list, getD-list, join-size}
+use Rattle.lists.specs.Loops.{sumOf}
+use Rattle.lists.proofs.Lists.{join-size}
 use Rattle.lists.proofs.Buffers.{Reads, records-back, past}
-use Rattle.float.specs.Number.{zerof}
 use Rattle.coords.specs.declared.Point.{Point}
 use Rattle.vectors.specs.declared.Vector.{Vector}
-use Rattle.vectors.specs.Vectors.{dot, cross}
-use Rattle.coords.specs.Coords.{origin, diff}
 use Rattle.coords.specs.Buffers.{vertexNumbers, verticesIn}
 use Rattle.coords.proofs.Buffers.{vertices-size, vertices-back}
 use Rattle.object.specs.declared.Corner.{Corner}
-use Rattle.fields.specs.Fields.{pointAt, cornersAt, countsAt, holesAt}
-use Rattle.scene.proofs.Parts.{corners-length, holes-size, outline-corners, holes-length, counts-length, corners-count}
+use Rattle.fields.specs.Fields.{cornersAt, countsAt, holesAt}
+use Rattle.scene.proofs.Parts.{holes-length, counts-length, corners-count}
+use Rattle.buffers.proofs.Vertices.{length-vertices}
+use Rattle.face.specs.declared.Tally.{Tally}
 use Rattle.face.specs.Faces.{Triangle, TriangleLow}
-use Rattle.face.specs.Offered.{triangleAt, trianglesIn}
+use Rattle.offering.specs.Triangles.{triangleAt, trianglesIn}
 use Rattle.face.specs.Drawing.{Drawing, Drew, Room}
-use Rattle.face.proofs.Draws.{drew-room}
-use Rattle.lid.specs.declared.Flat.{Flat}
-use Rattle.lid.specs.Plane.{topsOf, lidNormal, firstAxis, flatten}
-use Rattle.lid.specs.Rings.{flats, flat0}
-use Rattle.lid.specs.Lid.{Lid, lidOf, lidPrice}
-use Rattle.lid.specs.Steps.{flatOn}
+use Rattle.face.proofs.Draws.{drew-room, room-less}
+use Rattle.face.proofs.OneFace.{length-triangles}
+use Rattle.lid.specs.Lid.{lidPrice}
 use Rattle.lid.specs.Written.{triangleRecord, triangleNumbers}
-use Rattle.lid.proofs.Facts.{total, lid-triangles, lid-corners}
-use Rattle.shapes.specs.Shapes.{allCorners, flatOf, outlineLid}
-use Rattle.walls.specs.Outlines.{faceAt, pointsAt, cornersOf, holeCorners, lidAt, Placed}
-use Rattle.walls.proofs.CornerLaws.{map-list, tops-points, fill-front}
+use Rattle.lid.proofs.Facts.{lid-triangles, lid-corners}
+use Rattle.shapes.specs.Shapes.{flatOf, outlineLid, hasHeight}
+use Rattle.lid_plane.specs.Outlines.{faceAt, pointsAt, Near, cornersOf, holeCorners, lidAt, Placed}
+use Rattle.lid_plane.proofs.CornerLaws.{points-length}
+use Rattle.lid_cuts.proofs.FillLaws.{fill-front}
 use Rattle.shapes.proofs.Sizes.{outline-entries, price-lid}
-
--- ---- corners laid flat
-
--- coordinates in two lists are the flat corners
-pub flats-list : (f : ℕ → Flat) (n : ℕ) → flats (list (λ j. f j .u) n 0) (list (λ j. f j .v) n 0) ≡ list f n 0
-unfolding flats
-flats-list f n =
-    ext-getD flat0 (list pair (length us) 0) (list f n 0) (length-list pair (length us) 0 ∙ length-list (λ j. f j .u) n 0 ∙ sym (length-list f n 0))
-    (λ i h. same i (omega (arith, h, length-list pair (length us) 0, length-list (λ j. f j .u) n 0)))
-  where
-    us : List Float
-    us = list (λ j. f j .u) n 0
-
-    vs : List Float
-    vs = list (λ j. f j .v) n 0
-
-    pair : ℕ → Flat
-    pair i = record { u = getD us i zerof; v = getD vs i zerof }
-
-    same : (i : ℕ) → i < n → getD (list pair (length us) 0) i flat0 ≡ getD (list f n 0) i flat0
-    same i h =
-        getD-list pair (length us) 0 i flat0 (omega (arith, length-list (λ j. f j .u) n 0))
-        ∙ ap pair (zero-add i)
-        ∙ (λ z. record { u = (getD-list (λ j. f j .u) n 0 i zerof h) z; v = (getD-list (λ j. f j .v) n 0 i zerof h) z })
-        ∙ sym (getD-list f n 0 i flat0 h)
-
--- point k at `at`, laid flat
-abbrev pub flatAt : List ℕ → ℕ → Vector → ℕ → Flat
-flatAt s at lid k = flatOn (pointAt s at) (firstAxis lid) (cross lid (firstAxis lid)) (pointAt s (at + 24 * k))
-
-pub flatten-points : (s : List ℕ) (n at : ℕ) (lid : Vector) → list (flatAt s at lid) n 0 ≡ flatten lid (pointsAt s n at)
-unfolding flatten pointsAt list
-flatten-points s zero at lid = refl
-flatten-points s (suc n) at lid =
-    ap (λ (p : ℕ). list (λ k. flatOn (pointAt s p) (firstAxis lid) (cross lid (firstAxis lid)) (pointAt s (at + 24 * k))) (suc n) 0) (sym (add-zero at))
-    ∙ sym (map-list (flatOn (pointAt s (at + 24 * 0)) (firstAxis lid) (cross lid (firstAxis lid))) (λ k. pointAt s (at + 24 * k)) (suc n) 0)
-
-pub laid-flat : (s : List ℕ) (n at : ℕ) (lid : Vector) (o : Point) (e1 e2 : Vector) (us vs : List Float) → o ≡ pointAt s at → e1 ≡ firstAxis lid → e2 ≡ cross lid e1
-    → us ≡ list (λ j. flatOn o e1 e2 (pointAt s (at + 24 * j)) .u) n 0 → vs ≡ list (λ j. flatOn o e1 e2 (pointAt s (at + 24 * j)) .v) n 0
-    → flats us vs ≡ flatten lid (pointsAt s n at)
-laid-flat s n at lid o e1 e2 us vs p q r a b =
-    ap₂ flats a b
-    ∙ flats-list (λ j. flatOn o e1 e2 (pointAt s (at + 24 * j))) n
-    ∙ ap (λ (x : Point). list (λ j. flatOn x e1 e2 (pointAt s (at + 24 * j))) n 0) p
-    ∙ ap (λ (x : Vector). list (λ j. flatOn (pointAt s at) e1 x (pointAt s (at + 24 * j))) n 0) r
-    ∙ ap (λ (x : Vector). list (λ j. flatOn (pointAt s at) x (cross lid x) (pointAt s (at + 24 * j))) n 0) q
-    ∙ flatten-points s n at lid
-
--- ---- the lid
-
--- all corners of an outline
-pub all-corners : (s : List ℕ) (i outer holes : ℕ) → allCorners (cornersAt s outer (cornersOf i holes)) (holesAt s (countsAt s holes (i + 4)) (cornersOf i holes + 24 * outer)) ≡ cornersAt s (outer + holeCorners s i holes) (cornersOf i holes)
-unfolding allCorners
-all-corners s i outer holes = outline-corners s outer (countsAt s holes (i + 4)) (cornersOf i holes)
-
-pub lid-at : (s : List ℕ) (i outer holes : ℕ)
-    → lidOf (flatten (lidNormal (cornersAt s outer (cornersOf i holes))) (pointsAt s (outer + holeCorners s i holes) (cornersOf i holes + 12))) outer (countsAt s holes (i + 4)) ≡ lidAt s i outer holes
-unfolding outlineLid flatOf
-lid-at s i outer holes =
-    let at = cornersOf i holes in
-    let counts = countsAt s holes (i + 4) in
-    let lid = lidNormal (cornersAt s outer at) in
-    let n = outer + holeCorners s i holes in
-    ap (λ (ps : List Point). lidOf (flatten lid ps) outer counts) (sym (tops-points s n at) ∙ ap topsOf (sym (all-corners s i outer holes)))
-    ∙ ap (λ (c : ℕ). lidOf (flatten lid (topsOf (allCorners (cornersAt s outer at) (holesAt s counts (at + 24 * outer))))) c counts) (sym (corners-length s outer at))
-    ∙ ap (lidOf (flatten lid (topsOf (allCorners (cornersAt s outer at) (holesAt s counts (at + 24 * outer))))) (length (cornersAt s outer at))) (sym (holes-size s counts (at + 24 * outer)))
-
-pub cut-lid : (s : List ℕ) (i outer holes m : ℕ) (lid : Vector) (fs : List Flat) (counts : List ℕ) → lid ≡ lidNormal (cornersAt s outer (cornersOf i holes)) → m ≡ outer + holeCorners s i holes
-    → fs ≡ flatten lid (pointsAt s m (cornersOf i holes + 12)) → counts ≡ countsAt s holes (i + 4) → lidOf fs outer counts ≡ lidAt s i outer holes
-cut-lid s i outer holes m lid fs counts p q r e =
-    ap₂ (λ (f : List Flat) (c : List ℕ). lidOf f outer c) (r ∙ ap₂ (λ (n : Vector) (k : ℕ). flatten n (pointsAt s k (cornersOf i holes + 12))) p q) e ∙ lid-at s i outer holes
 
 -- ---- its triangles in a buffer
 
@@ -145,6 +70,17 @@ points-front buffer ps n l h =
     ∙ ap verticesIn (fill-front buffer (vertexNumbers ps) (omega (arith, e, l, h)))
     ∙ vertices-back ps
 
+-- n points in a buffer, and what `face` asks of them
+pub points-drawn : (s : List ℕ) (n at : ℕ) (buffer buffer′ : List Float) → buffer′ ≡ sets buffer 0 (vertexNumbers (pointsAt s n at)) → 3 * n ≤ length buffer
+    → verticesIn (take (3 * n) buffer′) ≡ pointsAt s n at
+points-drawn s n at buffer buffer′ e h = ap (λ (l : List Float). verticesIn (take (3 * n) l)) e ∙ points-front buffer (pointsAt s n at) n (points-length s n at) h
+
+pub face-asks : {before n k : ℕ} {t : Tally} (ts : List Triangle) (numbers : List Float) (ps : List Point) → verticesIn numbers ≡ ps → length ps ≡ n → Room before t n k → Each (TriangleLow n) ts
+    → Room before t (length numbers / 3) k × Each (TriangleLow (length (verticesIn numbers))) ts
+face-asks {before} {n} {k} {t} ts numbers ps e h room low =
+    let size : length (verticesIn numbers) ≡ n = ap length e ∙ h in
+    (subst (λ (m : ℕ). Room before t m k) (sym size ∙ length-vertices numbers) room, subst (λ (m : ℕ). Each (TriangleLow m) ts) (sym size) low)
+
 -- ---- its room
 
 -- one face drawn of two with n points and k triangles each
@@ -162,17 +98,33 @@ module _ (s : List ℕ) (i outer holes : ℕ) (p : Placed s i outer holes) where
   abbrev hs : List (List Corner)
   hs = holesAt s (countsAt s holes (i + 4)) (cornersOf i holes + 24 * outer)
 
-  pub few-triangles : length (lidAt s i outer holes .triangles) ≤ 612
-  few-triangles =
+  -- at most one for each entry of the log, and one more
+  pub most-triangles : length (lidAt s i outer holes .triangles) ≤ outer + holeCorners s i holes + 3 * holes + 2
+  most-triangles =
       let a : length (outlineLid cs hs .triangles) ≡ lidPrice (flatOf cs hs) (outlineLid cs hs .log) = unfold outlineLid in lid-triangles (flatOf cs hs) (length cs) (map length hs) in
       let e = price-lid cs hs in
       let b = outline-entries cs hs in
       let h = holes-length s (countsAt s holes (i + 4)) (cornersOf i holes + 24 * outer) ∙ counts-length s holes (i + 4) in
       let c = corners-count s outer (cornersOf i holes) (countsAt s holes (i + 4)) (cornersOf i holes + 24 * outer) in
-      omega (arith, a, e, b, h, c, p .few, p .corners)
+      omega (arith, a, e, b, h, c)
+
+  pub few-triangles : length (lidAt s i outer holes .triangles) ≤ 612
+  few-triangles = omega (arith, most-triangles, p .few, p .corners)
 
   pub low-triangles : Each (TriangleLow (outer + holeCorners s i holes)) (lidAt s i outer holes .triangles)
   low-triangles =
       subst (λ (n : ℕ). Each (TriangleLow n) (lidAt s i outer holes .triangles))
       (corners-count s outer (cornersOf i holes) (countsAt s holes (i + 4)) (cornersOf i holes + 24 * outer))
       (unfold outlineLid in lid-corners (flatOf cs hs) (length cs) (map length hs))
+
+  -- what `lid_faces` asks, where the lid's triangles are written at the start of a buffer with room for them
+  pub lid-asks : {before n count : ℕ} {t : Tally} {high : Bool} (buffer buffer′ : List ℕ) → n ≡ outer + holeCorners s i holes → high ≡ hasHeight (cornersAt s n (cornersOf i holes)) → Room before t 1024 1224
+      → count ≡ length (lidAt s i outer holes .triangles) → buffer′ ≡ sets buffer 0 (triangleNumbers (lidAt s i outer holes .triangles)) → 3 * length (lidAt s i outer holes .triangles) ≤ length buffer
+      → (Near (cornersOf i holes) n × (n ≤ 512) × (high ≡ hasHeight (cornersAt s n (cornersOf i holes))))
+      × (Room before t (2 * n) (2 * (length (take (3 * count) buffer′) / 3)) × Each (TriangleLow n) (trianglesIn (take (3 * count) buffer′)))
+  lid-asks {before} {n} {count} {t} buffer buffer′ m h room e w fits =
+      let ts = lidAt s i outer holes .triangles in
+      let drawn = triangles-drawn buffer buffer′ ts count e w fits in
+      let size = sym (length-triangles (take (3 * count) buffer′)) ∙ ap length drawn in
+      let low = subst (λ (k : ℕ). Each (TriangleLow k) ts) (sym m) low-triangles in
+      ((omega (arith, p .near, m), omega (arith, p .corners, m), h), (room-less room (omega (arith, p .corners, m)) (omega (arith, size, few-triangles)), subst (Each (TriangleLow n)) (sym drawn) low))

@@ -1,8 +1,8 @@
 -- Document 01, sections 2 (row 11) and 7, and `Mesh::validate`: the verdict on a mesh, at a limit below which a triangle is thin.
 use Prim.Native.Nat.{ℕ, suc, _%_}
-use mathlib.Core.Bool.{Bool, not, _||_, cond}
+use mathlib.Core.Bool.{cond}
 use mathlib.Core.List.{List, [], _∷_}
-use lib.ListN.{length, getD}
+use lib.ListN.{length}
 use lib.Dec.{leb, eqb}
 use lib.Ieee.{Float}
 use Rattle.lists.specs.declared.Found.{Found}
@@ -11,16 +11,13 @@ use Rattle.lists.specs.Loops.{first}
 use Rattle.float.specs.Number.{minArea}
 use Rattle.coords.specs.declared.Point.{Point}
 use Rattle.coords.specs.Buffers.{verticesIn}
-use Rattle.coords.specs.Coords.{noArea, origin, finitePoint}
+unfoldable pub use Rattle.faults.specs.Faults.{degenerate}
+pub use Rattle.faults.specs.Faults.{notFinite}
 use Rattle.mesh.specs.declared.Judgement.{Judgement}
 use Rattle.mesh.specs.declared.Validation.{Validation}
 use Rattle.mesh.specs.declared.Validation.the-variants.{Judged, PartialVertex}
 use Rattle.mesh.specs.declared.Verdict.{Verdict}
 use Rattle.mesh.specs.declared.Verdict.the-variants.{Ok, Empty, NonFiniteVertex, IndexOutOfRange, DegenerateTriangle}
-
-unfoldable pub degenerate : Float → List Point → ℕ → ℕ → ℕ → Bool
-degenerate limit vs a b c =
-    eqb a b || eqb b c || eqb a c || noArea limit (getD vs a origin) (getD vs b origin) (getD vs c origin)
 
 -- the triangles from number t on
 unfoldable pub trianglesFrom : Float → List Point → ℕ → List ℕ → Verdict
@@ -44,10 +41,6 @@ orLater Empty later = Empty
 orLater (NonFiniteVertex i) later = NonFiniteVertex i
 orLater (IndexOutOfRange t i n) later = IndexOutOfRange t i n
 orLater (DegenerateTriangle t) later = DegenerateTriangle t
-
--- vertex i has a NaN or an infinity
-abbrev pub notFinite : List Point → ℕ → Bool
-notFinite vs i = not (finitePoint (getD vs i origin))
 
 -- the vertices are looked at before the triangles
 unfoldable pub verdictAt : Found → Verdict → Verdict

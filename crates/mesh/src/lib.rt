@@ -1,12 +1,11 @@
 // Whether a mesh can back a physics collider, and if not, why: `Mesh::validate` of mesh.rs.
 ghost use mathlib.Core.Path.{_≡_};
-ghost use Prim.Native.Nat.{_+_, _<_, _/_};
+ghost use Prim.Native.Nat.{_+_, _<_};
 ghost use lib.ListN.{length, drop};
-ghost use Rattle.lists.specs.Loops.{first};
-ghost use Rattle.coords.specs.Coords.{noArea};
 ghost use Rattle.coords.specs.Buffers.{verticesIn};
-ghost use Rattle.mesh.specs.Validate.{notFinite, degenerate, trianglesFrom, orLater, validateAt, validate, judgement, verdictNumbers, validationNumbers};
-use coords::Point;
+ghost use Rattle.mesh.specs.Validate.{trianglesFrom, orLater, validateAt, validate, judgement, verdictNumbers, validationNumbers};
+use faults::degenerate;
+use faults::first_not_finite;
 use lists::Found;
 
 // Twice the area, in square metres, below which a triangle has none worth drawing or colliding with.
@@ -41,46 +40,6 @@ pub struct Judgement {
     pub count: u64,
 }
 
-fn no_area(limit: f32, a: Point, b: Point, c: Point) -> bool
-    ensures { λ r. ⌜ r ≡ noArea limit a b c ⌝ }
-{
-    b.sub(a).cross(c.sub(a)).shorter_than(limit)
-}
-
-fn first_not_finite(vertices: &[f32]) -> Found
-    ensures { λ r. ⌜ r ≡ first (notFinite (verticesIn (now (vertices .entry)))) (length (verticesIn (now (vertices .entry)))) 0 ⌝ }
-{
-    let n = vertices.len() / 3;
-    let mut k = 0;
-    while k < n {
-        if !buffers::vertex_at(vertices, k).is_finite() {
-            return Found::At(k);
-        }
-        k = k + 1;
-    }
-    Found::Nowhere
-}
-
-fn wide(x: u32) -> usize
-    ensures { λ r. ⌜ r ≡ x ⌝ }
-{
-    x as usize
-}
-
-// Whether a triangle of vertices that there are repeats one or has too little area.
-fn degenerate(limit: f32, vertices: &[f32], a: usize, b: usize, c: usize) -> bool
-    requires { ⌜ (a < length (now vertices) / 3) × (b < length (now vertices) / 3) × (c < length (now vertices) / 3) ⌝ }
-    ensures { λ r. ⌜ r ≡ degenerate limit (verticesIn (now (vertices .entry))) a b c ⌝ }
-{
-    let thin = no_area(
-        limit,
-        buffers::vertex_at(vertices, a),
-        buffers::vertex_at(vertices, b),
-        buffers::vertex_at(vertices, c),
-    );
-    (a == b) | (b == c) | (a == c) | thin
-}
-
 // What is wrong with triangle t, whose indices stand from place i on, if anything is.
 fn triangle(limit: f32, vertices: &[f32], indices: &[u32], t: usize, i: usize) -> Verdict
     requires { ⌜ i < length (now indices) ⌝ }
@@ -88,7 +47,7 @@ fn triangle(limit: f32, vertices: &[f32], indices: &[u32], t: usize, i: usize) -
 {
     let count = vertices.len() / 3;
     let a = indices[i];
-    let x = wide(a);
+    let x = a as usize;
     if count <= x {
         return Verdict::IndexOutOfRange(t, a, count);
     }
@@ -96,7 +55,7 @@ fn triangle(limit: f32, vertices: &[f32], indices: &[u32], t: usize, i: usize) -
         return Verdict::DegenerateTriangle(t);
     }
     let b = indices[i + 1];
-    let y = wide(b);
+    let y = b as usize;
     if count <= y {
         return Verdict::IndexOutOfRange(t, b, count);
     }
@@ -104,7 +63,7 @@ fn triangle(limit: f32, vertices: &[f32], indices: &[u32], t: usize, i: usize) -
         return Verdict::DegenerateTriangle(t);
     }
     let c = indices[i + 2];
-    let z = wide(c);
+    let z = c as usize;
     if count <= z {
         return Verdict::IndexOutOfRange(t, c, count);
     }

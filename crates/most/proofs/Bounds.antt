@@ -26,7 +26,7 @@ use Rattle.scene_mesh.specs.Demand3.{LongEnough}
 use Rattle.scene_mesh.specs.Mesh.{keptBy, accountOf, pieceOf, spanOf, addPiece, meshFrom, meshOf, accountsOf, logsOf, spanRecord, spanNumbers, accountRecord, accountNumbers}
 use Rattle.scene_mesh.specs.Operations.{output, countsOf}
 use Rattle.scene_mesh.proofs.Demand3.Spans.{piece-size}
-use Rattle.pass.proofs.Pass.Objects.{mesh-indices, mesh-normals}
+use Rattle.scene_mesh.proofs.MeshSizes.{mesh-indices, mesh-normals}
 use Rattle.most.specs.declared.Most.{Most}
 use Rattle.most.specs.Most.{solidMost, outlineMost, sweepMost, mostOf, mostOfAll, mostCounts}
 

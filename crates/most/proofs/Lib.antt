@@ -1,4 +1,1 @@
 pub mod Bounds
-pub mod Headers
-pub mod Sums
-pub mod Exact

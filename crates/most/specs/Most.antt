@@ -1,5 +1,5 @@
--- The most that objects can come to, by the kinds and counts that their records' headers tell. proofs/Bounds shows that it is enough, and proofs/Exact
--- computes that one object of each kind comes to just that. Definitions only.
+-- The most that objects can come to, by the kinds and counts that their records' headers tell. proofs/Bounds shows that it is enough, and
+-- proofs/Exact of crate computed computes that one object of each kind comes to just that. Definitions only.
 use Prim.Native.Nat.{ℕ, _+_, _-_, _*_, _≤_}
 use mathlib.Core.Bool.{Bool, true, false, cond}
 use mathlib.Core.List.{List, [], _∷_}

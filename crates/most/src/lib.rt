@@ -1,23 +1,11 @@
-// The most that the objects of an accepted scene can come to, told by the headers of their records
-// alone: buffers with room for it need no measuring.
+// The most that one object can come to, told by the header of its record alone.
 ghost use mathlib.Core.Path.{_≡_};
 ghost use mathlib.Core.Bool.{cond};
-ghost use mathlib.Core.List.{List};
 ghost use Prim.Native.Nat.{_+_, _-_, _≤_};
 ghost use lib.Ieee.{lt};
 ghost use Rattle.float.specs.Number.{zerof};
-ghost use Rattle.object.specs.Object.{Object};
-ghost use Rattle.scene.specs.declared.scenes.Checked.the-variants.{Accepted};
-ghost use Rattle.scene.specs.Scene.{scene, accepted};
-ghost use Rattle.scene.specs.Answers.{checkedOf};
-ghost use Rattle.scene.specs.Headers.{shapeOf, Limits};
-ghost use Rattle.pass.specs.Wrote.{countsFrom};
-ghost use Rattle.most.specs.Most.{ofShape, solidMost, outlineMost, sweepMost, mostOf, together, mostOfAll, mostCounts, Few};
-use headers::header_at;
+ghost use Rattle.most.specs.Most.{ofShape, solidMost, outlineMost, sweepMost};
 use object::Extent;
-use pass::Counted;
-use records::sum_counts;
-use scene::headers::Body;
 
 // The most vertices, triangles, spans and log entries.
 pub struct Most {
@@ -66,7 +54,7 @@ fn cylinder_most(height: f32) -> Most
     of_shape(80, 46, 0)
 }
 
-fn solid_most(extent: Extent) -> Most
+pub fn solid_most(extent: Extent) -> Most
     ensures { λ r. ⌜ r ≡ solidMost extent ⌝ }
 {
     match extent {
@@ -77,7 +65,7 @@ fn solid_most(extent: Extent) -> Most
 }
 
 // Of outer corners, those of the holes, and holes.
-fn outline_most(closed: bool, outer: u32, inner: u32, holes: u32) -> Most
+pub fn outline_most(closed: bool, outer: u32, inner: u32, holes: u32) -> Most
     requires { ⌜ (outer + inner ≤ 512) × (holes ≤ 32) ⌝ }
     ensures { λ r. ⌜ r ≡ outlineMost closed outer inner holes ⌝ }
 {
@@ -90,7 +78,7 @@ fn outline_most(closed: bool, outer: u32, inner: u32, holes: u32) -> Most
     of_shape(4 * walls, 2 * walls, 0)
 }
 
-fn sweep_most(round: bool, sections: u32) -> Most
+pub fn sweep_most(round: bool, sections: u32) -> Most
     requires { ⌜ sections ≤ 4096 ⌝ }
     ensures { λ r. ⌜ r ≡ sweepMost round sections ⌝ }
 {
@@ -98,74 +86,4 @@ fn sweep_most(round: bool, sections: u32) -> Most
         return of_shape(less(64 * sections, 32), less(32 * sections, 4), 0);
     }
     of_shape(less(16 * sections, 8), less(8 * sections, 4), 0)
-}
-
-// The object whose record's body is at i.
-fn most_at(s: &[u8], i: usize, body: Body) -> Most
-    requires { ⌜ Limits (now s) i body × (i ≤ 16777216) ⌝ }
-    ensures { λ r. ⌜ r ≡ mostOf (shapeOf (now (s .entry)) i body) ⌝ }
-{
-    match body {
-        Body::Solid(extent) => solid_most(extent),
-        Body::Outline {
-            closed,
-            outer,
-            holes,
-        } => {
-            let inner = sum_counts(s, holes, i + 4);
-            outline_most(closed, outer as u32, inner as u32, holes as u32)
-        }
-        Body::Sweep { round, sections } => sweep_most(round, sections as u32),
-    }
-}
-
-fn add(a: Most, b: Most) -> Most
-    requires { ⌜ Few (together a b) 16777216 65536 ⌝ }
-    ensures { λ r. ⌜ r ≡ together a b ⌝ }
-{
-    Most {
-        vertices: a.vertices + b.vertices,
-        triangles: a.triangles + b.triangles,
-        spans: a.spans + b.spans,
-        entries: a.entries + b.entries,
-    }
-}
-
-// All n objects.
-fn most_of_all(s: &[u8], n: u32) -> Most
-    requires { ⌜ Accepted n ≡ checkedOf (scene (now s)) ⌝ }
-    ensures { λ r. ⌜ Few r 16777216 65536 × ((os : List Object) → scene (now (s .entry)) ≡ accepted os → r ≡ mostOfAll os) ⌝ }
-{
-    let mut most = Most {
-        vertices: 0,
-        triangles: 0,
-        spans: 0,
-        entries: 0,
-    };
-    let mut at = 0;
-    let mut k = 0;
-    while k < n {
-        let h = header_at(s, at);
-        let body = h.body;
-        most = add(most, most_at(s, at + 5, body));
-        at = at + h.size;
-        k = k + 1;
-    }
-    most
-}
-
-// The most numbers that each buffer can get.
-pub fn most_counts(s: &[u8], n: u32) -> Counted
-    requires { ⌜ Accepted n ≡ checkedOf (scene (now s)) ⌝ }
-    ensures { λ r. ⌜ ((os : List Object) → scene (now (s .entry)) ≡ accepted os → countsFrom r ≡ mostCounts os) ⌝ }
-{
-    let m = most_of_all(s, n);
-    Counted {
-        vertices: 3 * m.vertices,
-        normals: 3 * m.vertices,
-        indices: 3 * m.triangles,
-        spans: 5 * m.spans,
-        account: 4 * n,
-        log: 4 * m.entries,
-    }
 }

@@ -48,9 +48,9 @@ impl Orientation {
         let u3 = u2 * heading.cos - v1 * heading.sin;
         let v3 = u2 * heading.sin + v1 * heading.cos;
         Vector {
-            x: roots::narrow(u3),
-            y: roots::narrow(v3),
-            z: roots::narrow(z2),
+            x: narrowing::narrow(u3),
+            y: narrowing::narrow(v3),
+            z: narrowing::narrow(z2),
         }
     }
 }

@@ -1,8 +1,7 @@
 // The functions that C calls, with their answers in numbers.
 ghost use mathlib.Core.Path.{_≡_};
 ghost use Rattle.mesh.specs.Validate.{validate, validationNumbers};
-ghost use Rattle.scene_mesh.specs.Operations.{measure, build};
-ghost use Rattle.pass.specs.Pass.{lent};
+ghost use Rattle.scene_mesh.specs.Operations.{lent, measure, build};
 ghost use Rattle.answers.specs.Answers.{answerNumbers};
 use answers::Answer;
 use mesh::Judgement;

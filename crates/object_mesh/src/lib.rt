@@ -1,4 +1,3 @@
-// Build with Validate under demand 3; the C functions.
+// The library that C and Rust link.
 
-pub mod both;
 pub mod c;

@@ -1,6 +1,6 @@
 -- The faces and the price of an outline from what its parts come to. Assumes nothing.
-use mathlib.Core.Path.{_≡_, refl, sym, ap, ap₂, _∙_}
-use mathlib.Core.Bool.{Bool, true, false, cond}
+use mathlib.Core.Path.{_≡_, refl, sym, ap, ap₂, subst, _∙_}
+use mathlib.Core.Bool.{Bool, true, false, cond, true≢false, false≢true}
 use Prim.Native.Nat.{ℕ, _+_, _-_, _*_, _≤_}
 use native.Mathlib.Omega.{arith}
 use mathlib.Core.List.{List, [], _∷_, _++_, map, append-nil}
@@ -17,22 +17,39 @@ use Rattle.scene.proofs.Parts.{corners-length, holes-size, corners-count}
 use Rattle.face.specs.Faces.{Face}
 use Rattle.face.specs.Drawing.{Drawing, tally, drawing, Drew, Room}
 use Rattle.face.proofs.Counts.{count}
-use Rattle.face.proofs.Draws.{drew-room}
+use Rattle.face.proofs.Draws.{drew-room, then}
 use Rattle.lid.specs.Plane.{lidNormal, about}
 use Rattle.lid.specs.Lid.{lidPrice}
+use Rattle.lid.specs.Log.{logNumbers}
+use Rattle.lid.specs.Written.{logWith}
 use Rattle.lid.proofs.Facts.{total, lid-triangles}
-use Rattle.shapes.specs.Shapes.{outerWalls, holeWalls, allCorners, flatOf, outlineLid, hasHeight, lidFaces, outlineFaces, facesOf}
-use Rattle.shapes.specs.Drawn.{CanDraw}
+use Rattle.shapes.specs.Shapes.{walls, outerWalls, holeWalls, allCorners, flatOf, outlineLid, hasHeight, lidFaces, outlineFaces, facesOf, logOf}
+use Rattle.shapes.specs.declared.Drawn.{Drawn}
+use Rattle.shapes.specs.Drawn.{CanDraw, DrewObject}
 use Rattle.shapes.specs.Price.{offered, outlinePrice}
-use Rattle.walls.specs.Outlines.{cornersOf, holeCorners, outlineShape, lidAt, Placed}
+use Rattle.lid_plane.specs.Outlines.{cornersOf, holeCorners, outlineShape, lidAt, Placed}
 use Rattle.shapes.proofs.Sizes.{sum-lengths, outer-points, holes-points}
 use Rattle.shapes.proofs.Prices.{walls-count, holes-count}
-use Rattle.lid_faces.proofs.LidLaws.{all-corners}
+use Rattle.lid_cuts.proofs.FlatLaws.{all-corners}
 
 outer-count : (closed : Bool) (cs : List Corner) (lid : Vector) → sumOf count (outerWalls closed cs lid) ≤ 2 * length cs
 unfolding outerWalls
 outer-count true cs lid = omega (arith, walls-count cs (about cs lid) (length cs))
 outer-count false cs lid = omega (arith, walls-count cs zeroV (length cs - 1))
+
+-- the outer walls by what they are square to and how many they are
+pub few-edges : (closed : Bool) (n m : ℕ) → m ≡ cond closed n (n - 1) → m ≤ n
+few-edges true n m e = omega arith
+few-edges false n m e = omega arith
+
+pub outer-drew : {limit : Float} {before : ℕ} {normal : Vector} {m : ℕ} {d d′ : Drawing} (closed : Bool) (s : List ℕ) (n at : ℕ) (lid : Vector)
+    → normal ≡ cond closed (about (cornersAt s n at) lid) zeroV → m ≡ cond closed n (n - 1) → Drew limit (walls (cornersAt s n at) normal m) before d d′
+    → Drew limit (outerWalls closed (cornersAt s n at) lid) before d d′
+unfolding outerWalls
+outer-drew {limit} {before} {d = d} {d′ = d′} true s n at lid p q =
+    subst (λ (fs : List Face). Drew limit fs before d d′) (ap₂ (walls (cornersAt s n at)) p (q ∙ sym (corners-length s n at)))
+outer-drew {limit} {before} {d = d} {d′ = d′} false s n at lid p q =
+    subst (λ (fs : List Face). Drew limit fs before d d′) (ap₂ (walls (cornersAt s n at)) p (q ∙ ap (λ (k : ℕ). k - 1) (sym (corners-length s n at))))
 
 module _ (s : List ℕ) (i outer holes : ℕ) where
   abbrev pub outerCorners : List Corner
@@ -41,15 +58,15 @@ module _ (s : List ℕ) (i outer holes : ℕ) where
   abbrev pub holesOf : List (List Corner)
   holesOf = holesAt s (countsAt s holes (i + 4)) (cornersOf i holes + 24 * outer)
 
-  abbrev pub wallsOf : Bool → List Face
-  wallsOf closed = outerWalls closed outerCorners (lidNormal outerCorners) ++ join (holeWalls (lidNormal outerCorners)) holesOf
+  abbrev pub wallsOf : Bool → Vector → List Face
+  wallsOf closed lid = outerWalls closed outerCorners lid ++ join (holeWalls lid) holesOf
 
   corners-all : outer + holeCorners s i holes ≡ length outerCorners + sumOf length holesOf
   corners-all = omega (arith, corners-length s outer (cornersOf i holes), sum-lengths holesOf, ap total (holes-size s (countsAt s holes (i + 4)) (cornersOf i holes + 24 * outer)))
 
   -- walls leave room for the lid and the floor
   pub lid-room : {limit : Float} {before : ℕ} {vs ns : List Float} {is : List ℕ} {d : Drawing} (closed : Bool) (lid : Vector) → before ≤ 33554432 → Placed s i outer holes
-      → Drew limit (outerWalls closed outerCorners lid ++ join (holeWalls lid) holesOf) before (drawing (tally 0 0 0) vs ns is) d → Room before (d .tally) 1024 1224
+      → Drew limit (wallsOf closed lid) before (drawing (tally 0 0 0) vs ns is) d → Room before (d .tally) 1024 1224
   lid-room {limit} {before} closed lid h placed p =
       let start : Room before (tally 0 0 0) 3072 2248 = record { vertices = omega arith; kept = omega arith; thin = omega arith } in
       let walls = outerWalls closed outerCorners lid in
@@ -59,19 +76,7 @@ module _ (s : List ℕ) (i outer holes : ℕ) where
       (omega (arith, sum-append (λ f. length (f .points)) walls inner, outer-points closed outerCorners lid, holes-points lid holesOf, e, placed .corners))
       (omega (arith, sum-append count walls inner, outer-count closed outerCorners lid, holes-count lid holesOf, sum-lengths holesOf, e, placed .corners))
 
-  pub open-faces : wallsOf false ≡ facesOf (outlineShape s i false outer holes)
-  unfolding facesOf outlineFaces
-  open-faces = sym (append-nil (wallsOf false))
-
-  pub closed-faces : wallsOf true ++ lidFaces (cornersAt s (outer + holeCorners s i holes) (cornersOf i holes)) (lidNormal outerCorners) (lidAt s i outer holes .triangles) ≡ facesOf (outlineShape s i true outer holes)
-  unfolding facesOf outlineFaces
-  closed-faces = ap (λ (all : List Corner). wallsOf true ++ lidFaces all (lidNormal outerCorners) (lidAt s i outer holes .triangles)) (sym (all-corners s i outer holes))
-
-  pub open-offered : 2 * (outer - 1) + 2 * holeCorners s i holes ≡ offered (outlineShape s i false outer holes)
-  unfolding offered outlinePrice
-  open-offered = omega (arith, corners-length s outer (cornersOf i holes), sum-lengths holesOf, ap total (holes-size s (countsAt s holes (i + 4)) (cornersOf i holes + 24 * outer)))
-
-  pub closed-offered : (high : Bool) (t : ℕ) → high ≡ hasHeight (cornersAt s (outer + holeCorners s i holes) (cornersOf i holes)) → t ≡ length (lidAt s i outer holes .triangles)
+  closed-offered : (high : Bool) (t : ℕ) → high ≡ hasHeight (cornersAt s (outer + holeCorners s i holes) (cornersOf i holes)) → t ≡ length (lidAt s i outer holes .triangles)
       → 2 * (outer + holeCorners s i holes) + t + cond high t 0 ≡ offered (outlineShape s i true outer holes)
   unfolding offered outlinePrice
   closed-offered high t h e =
@@ -81,6 +86,41 @@ module _ (s : List ℕ) (i outer holes : ℕ) where
       let q : high ≡ hasHeight (allCorners outerCorners holesOf) = h ∙ ap hasHeight (sym (all-corners s i outer holes)) in
       let g : cond high t 0 ≡ cond (hasHeight (allCorners outerCorners holesOf)) price 0 = ap₂ (λ (b : Bool) (x : ℕ). cond b x 0) q p in
       omega (arith, p, g, corners-all)
+
+  -- an open outline, drawn
+  module _ {limit : Float} {before : ℕ} {vs ns : List Float} {is : List ℕ} {lid : Vector} {n : ℕ} where
+    pub open-object : (closed : Bool) {ls : List ℕ} {r : Drawn} {vs′ ns′ : List Float} {is′ : List ℕ} → closed ≡ false → lid ≡ lidNormal outerCorners → n ≡ outer + holeCorners s i holes
+        → Drew limit (wallsOf closed lid) before (drawing (tally 0 0 0) vs ns is) (drawing (r .tally) vs′ ns′ is′) → r .offered ≡ 2 * (outer - 1) + 2 * (n - outer) → r .entries ≡ 0
+        → DrewObject limit (outlineShape s i closed outer holes) before vs ns is ls r vs′ ns′ is′ ls
+    unfolding facesOf outlineFaces offered outlinePrice logOf logNumbers join
+    open-object false {ls} {r} {vs′} {ns′} {is′} c l e drew price none = record {
+      drew = subst (λ (fs : List Face). Drew limit fs before (drawing (tally 0 0 0) vs ns is) (drawing (r .tally) vs′ ns′ is′))
+          (ap (wallsOf false) l ∙ sym (append-nil _)) drew;
+      offered = omega (arith, price, e, corners-length s outer (cornersOf i holes), corners-all);
+      entries = none;
+      log = refl;
+    }
+    open-object true c l e drew price none = absurd (true≢false c)
+
+    -- a closed one, whose walls leave the drawing at d
+    pub closed-object : (closed : Bool) {high : Bool} {triangles : ℕ} {ls : List ℕ} {d : Drawing} {r : Drawn} {vs′ ns′ : List Float} {is′ ls′ : List ℕ} → closed ≡ true → lid ≡ lidNormal outerCorners
+        → n ≡ outer + holeCorners s i holes → high ≡ hasHeight (cornersAt s n (cornersOf i holes)) → Drew limit (wallsOf closed lid) before (drawing (tally 0 0 0) vs ns is) d
+        → Drew limit (lidFaces (cornersAt s n (cornersOf i holes)) lid (lidAt s i outer holes .triangles)) before d (drawing (r .tally) vs′ ns′ is′)
+        → triangles ≡ length (lidAt s i outer holes .triangles) → r .offered ≡ 2 * n + triangles + cond high triangles 0
+        → r .entries ≡ length (lidAt s i outer holes .log) → ls′ ≡ logWith ls 0 (lidAt s i outer holes .log)
+        → DrewObject limit (outlineShape s i closed outer holes) before vs ns is ls r vs′ ns′ is′ ls′
+    unfolding facesOf outlineFaces logOf
+    closed-object true {high} {triangles} {ls} {d} {r} {vs′} {ns′} {is′} c l e h sides lids k price entries log = record {
+      drew = subst (λ (fs : List Face). Drew limit fs before (drawing (tally 0 0 0) vs ns is) (drawing (r .tally) vs′ ns′ is′))
+          (ap₂ (λ (v : Vector) (cs : List Corner). wallsOf true v ++ lidFaces cs v (lidAt s i outer holes .triangles)) l (all e)) (then limit sides lids);
+      offered = price ∙ ap (λ (m : ℕ). 2 * m + triangles + cond high triangles 0) e ∙ closed-offered high triangles (h ∙ ap (λ (m : ℕ). hasHeight (cornersAt s m (cornersOf i holes))) e) k;
+      entries = entries;
+      log = log;
+    }
+      where
+        all : n ≡ outer + holeCorners s i holes → cornersAt s n (cornersOf i holes) ≡ allCorners outerCorners holesOf
+        all e = ap (λ (m : ℕ). cornersAt s m (cornersOf i holes)) e ∙ sym (all-corners s i outer holes)
+    closed-object false c l e h sides lids k price entries log = absurd (false≢true c)
 
 -- an outline that can be drawn is within the limits, at small places
 pub can-place : (s : List ℕ) (i before : ℕ) (closed : Bool) (outer holes : ℕ) → CanDraw s i (Outline closed outer holes) before → Placed s i outer holes

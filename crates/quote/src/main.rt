@@ -3,12 +3,11 @@
 ghost use mathlib.Core.Path.{_≡_};
 ghost use Prim.Native.Nat.{_+_, _≤_};
 ghost use lib.ListN.{length};
-use answers::BuiltAnswer;
+use answers::Answer;
 use libc::STDIN_FILENO;
 use libc::STDOUT_FILENO;
 use mesh::Validation;
 use mesh::Verdict;
-use pass::Counted;
 
 fn write(text: &[u8]) {
     io::write_all(STDOUT_FILENO, text);
@@ -78,10 +77,10 @@ fn write_objects(s: &[u8], i: usize, account: &[u32])
     }
 }
 
-fn write_mesh(c: Counted) {
-    write_field(b"mesh ", c.vertices / 3);
-    write_field(b" vertices ", c.indices);
-    write_field(b" indices ", c.spans / 5);
+fn write_mesh(a: Answer) {
+    write_field(b"mesh ", a.vertices / 3);
+    write_field(b" vertices ", a.indices);
+    write_field(b" indices ", a.spans / 5);
     write(b" spans\n");
 }
 
@@ -117,7 +116,7 @@ fn quote(s: &[u8]) {
     let mut spans = numbers();
     let mut account = numbers();
     let mut log = numbers();
-    let r = object_mesh::both::build_and_validate(
+    let r = build_and_validate::build_and_validate(
         s,
         &mut vertices,
         &mut normals,
@@ -128,18 +127,14 @@ fn quote(s: &[u8]) {
     );
     let answer = r.answer;
     let validation = r.validation;
-    match answer {
-        BuiltAnswer::Refused(f, _) => refuse(scene::refusal_number(f)),
-        BuiltAnswer::ShortVertices => refuse(8),
-        BuiltAnswer::ShortIndices => refuse(9),
-        BuiltAnswer::ShortRecords => refuse(10),
-        BuiltAnswer::Complete(c) => {
-            let n = place(c.account);
-            write_accounts(s, &account, n);
-            write_mesh(c);
-            write_verdict(validation)
-        }
+    let a = answer.numbers();
+    if a.refusal != 0 {
+        refuse(a.refusal);
+        return;
     }
+    write_accounts(s, &account, place(a.account));
+    write_mesh(a);
+    write_verdict(validation)
 }
 
 // The first n numbers of the account, four to an object; the offsets stand before the scene's last

@@ -1,2 +1,1 @@
 pub mod RingLaws
-pub mod RecordLaws

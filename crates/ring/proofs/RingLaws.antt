@@ -1,4 +1,4 @@
--- Rings filled in place, and the folds and tests over their corners, as the code's loops meet them. Assumes nothing.
+-- Rings filled in place, and turned. Assumes nothing.
 use mathlib.Core.Path.{_≡_, refl, sym, ap, _∙_}
 use mathlib.Core.Bool.{Bool, true, false, _||_, Bool·beq, cond}
 use mathlib.Core.List.{List, [], _∷_, _++_, append-assoc, append-nil, reverse, reverse-append}
@@ -6,11 +6,11 @@ use Prim.Native.Nat.{ℕ, zero, suc, _+_, _-_, _<_, _≤_}
 use native.Mathlib.Nat.{add-zero}
 use native.Mathlib.Numerals.{add-one}
 use native.Mathlib.Omega.{arith}
-use lib.ListN.{length, getD, take, drop, set, drop-of-length-le}
-use lib.Seq.{take-suc-set, take-all, drop-cons}
+use lib.ListN.{length, take, set}
+use lib.Seq.{take-suc-set, take-all}
 use lib.Dec.{ltb}
 use lib.Ieee.{Float, lt}
-use Rattle.lists.specs.Loops.{list, fold, every}
+use Rattle.lists.specs.Loops.{list}
 use Rattle.lists.proofs.Lists.{length-list}
 use Rattle.float.specs.Number.{zerof, minArea}
 use Rattle.float.specs.Signs.{magnitude}
@@ -70,28 +70,6 @@ reverse-up v zero = unfold list in refl
 reverse-up v (suc n) =
     let e : v + suc n - 1 ≡ v + n = omega arith in
     rw e (ap (λ (r : List ℕ). (v + n) ∷ r) (reverse-up v n) ∙ sym (reverse-append (up v n) ((v + n) ∷ [])) ∙ ap reverse (sym (up-snoc v n)))
-
--- ---- a fold over the elements from k on: at the start it is the whole, by computation; one element; the end
-
-module _ {A S : Type 0} (f : S → A → S) (l : List A) (k : ℕ) where
-  pub fold-next : (d : A) (s s′ t : S) → k < length l → s′ ≡ f s (getD l k d) → fold f s (drop k l) ≡ t → fold f s′ (drop (k + 1) l) ≡ t
-  unfolding fold
-  fold-next d s s′ t h e p = rw (add-one, e) (rw (drop-cons l k d) at p)
-
-  pub fold-end : (s t : S) → length l ≤ k → fold f s (drop k l) ≡ t → s ≡ t
-  unfolding fold
-  fold-end s t h p = rw (drop-of-length-le l h) at p
-
--- ---- a test of the elements from k on
-
-module _ {A : Type 0} (p : A → Bool) (l : List A) (k : ℕ) where
-  pub every-next : (d : A) (t : Bool) → k < length l → p (getD l k d) ≡ true → every p (drop k l) ≡ t → every p (drop (k + 1) l) ≡ t
-  unfolding every
-  every-next d t h e q = rw add-one (rw (drop-cons l k d, e) at q)
-
-  pub every-end : (t : Bool) → length l ≤ k → every p (drop k l) ≡ t → true ≡ t
-  unfolding every
-  every-end t h q = rw (drop-of-length-le l h) at q
 
 -- ---- a ring written and turned
 

@@ -61,7 +61,7 @@ fn narrowing(fd: i32) -> bool {
         return false;
     };
     let bits = (high as u64) * 0x1_0000_0000 + (low as u64);
-    write_pattern(roots::narrow(words::double(bits)));
+    write_pattern(narrowing::narrow(words::double(bits)));
     true
 }
 

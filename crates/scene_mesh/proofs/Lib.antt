@@ -2,3 +2,4 @@ pub mod Computes
 pub mod Demand3
 pub mod Vertices
 pub mod Lending
+pub mod MeshSizes

@@ -37,6 +37,10 @@ pub record Buffers : Type 0 where
   pub account : List ℕ
   pub log : List ℕ
 
+-- the six lent buffers in the order of a call
+abbrev pub lent : List Float → List Float → List ℕ → List ℕ → List ℕ → List ℕ → Buffers
+lent vs ns is ss accounts ls = record { vertices = vs; normals = ns; indices = is; spans = ss; account = accounts; log = ls }
+
 unfoldable pub noCounts : Counts
 noCounts = record { vertices = 0; normals = 0; indices = 0; spans = 0; account = 0; log = 0 }
 

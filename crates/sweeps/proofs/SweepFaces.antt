@@ -13,8 +13,6 @@ use Rattle.vectors.specs.declared.Vector.{Vector}
 use Rattle.coords.specs.Coords.{diff}
 use Rattle.object.specs.declared.Section.{Section}
 use Rattle.face.specs.Faces.{Face, fan, quad}
-use Rattle.face.specs.declared.Tally.{Tally}
-use Rattle.face.specs.Drawing.{Room}
 use Rattle.face.proofs.Counts.{count}
 use Rattle.fields.specs.Fields.{pointAt, cornerAt, sectionAt, sectionsAt}
 use Rattle.scene.proofs.Parts.{sections-get}
@@ -40,10 +38,6 @@ pair-points a b = four-most size 4 (isThinSection a && isThinSection b) (isFlatS
 pub pair-triangles : (a b : Section) → sumOf count (pairFaces a b) ≤ 8
 unfolding pairFaces quad fan list
 pair-triangles a b = four-most count 2 (isThinSection a && isThinSection b) (isFlatSection a && isFlatSection b) _ _ _ _ refl refl refl refl
-
--- less room in what room there is
-pub room-less : {before : ℕ} {t : Tally} {v k w j : ℕ} → Room before t w j → v ≤ w → k ≤ j → Room before t v k
-room-less r p q = record { vertices = omega (arith, r .vertices); kept = omega (arith, r .kept); thin = omega (arith, r .thin) }
 
 module _ (s : List ℕ) (at : ℕ) where
   pub sweep-none : (n : ℕ) → n ≡ 0 → sweepFaces (sectionsAt s n at) ≡ []

@@ -1,2 +1,3 @@
 pub mod LidLaws
 pub mod Limits
+pub mod OrderLaws

@@ -1,76 +1,49 @@
--- A ring cut, with its log and its triangles, and the whole lid. Assumes nothing.
-use mathlib.Core.Path.{_≡_, refl, sym, ap, _∙_}
-use mathlib.Core.Bool.{Bool, true, false, cond}
+-- The holes of a lid joined to its outer ring, which is then cut, and the whole lid. Assumes nothing.
+use mathlib.Core.Path.{_≡_, refl, sym, ap, subst, _∙_}
+use mathlib.Core.Bool.{Bool, true, false}
 use mathlib.Core.List.{List, [], _∷_, _++_, append-assoc, map}
-use Prim.Native.Nat.{ℕ, suc, _+_, _-_, _≤_}
-use native.Mathlib.Nat.{le-refl, zero-add}
+use Prim.Native.Nat.{ℕ, _+_, _*_, _<_, _≤_, _^_}
+use native.Mathlib.Nat.{zero-add}
 use native.Mathlib.Omega.{arith}
-use lib.ListN.{length, getD, take, drop, length-append, length-map, length-take}
-use lib.Seq.{take-append-le, length-take-le}
-use lib.Dec.{eqb}
+use lib.ListN.{length, getD, take, drop, length-append, length-take}
+use lib.Seq.{length-take-le, length-front}
 use lib.Ieee.{Float}
 use Rattle.lists.specs.Each.{Each}
 use Rattle.lists.specs.Loops.{list, join, sumOf}
-use Rattle.face.specs.Faces.{triangle}
 use Rattle.lid.specs.declared.Flat.{Flat}
-use Rattle.lid.specs.declared.Clipped.{Clipped}
 use Rattle.lid.specs.declared.LidCounts.{LidCounts}
 use Rattle.lid.specs.declared.Prepared.{Prepared}
 use Rattle.lid.specs.Log.{Entry, entry}
 use Rattle.lid.specs.Rings.{Hole, tooSmall, turnOuter, ringsFrom, holesFrom, skippedFrom, inOrder}
 use Rattle.lid.specs.Bridges.{joinAll}
 use Rattle.lid.specs.Clipping.{clip}
-use Rattle.lid.specs.Lid.{earsOf, lastTriangle, lidFrom, lidRings, lidOf}
-use Rattle.lid.specs.Written.{logWith, trianglesWith, triangleNumbers, cornerTotal, WritesLid}
-use Rattle.lid.specs.Steps.{turned, Clips}
-use Rattle.holes.specs.Holes.{holeAt, rightsOf, smallOf, skips, orderOf, Ordered, Joinable, JoinsAll, Prepares, ringEntries, ringTriangles, openEntries, openTriangles, lidOpen}
-use Rattle.lid.proofs.Facts.{clip-size, joinAll-log, holes-each, rings-count}
-use Rattle.holes.proofs.OrderLaws.{order-is, skips-are, order-joinable, order-adds, sum-two}
-use Rattle.ring.proofs.RecordLaws.{log-some, triangles-some}
+use Rattle.lid.specs.Lid.{lidFrom, lidRings, lidOf}
+use Rattle.lid.specs.Written.{logWith, triangleNumbers, cornerTotal, WritesLid}
+use Rattle.lid.specs.Steps.{turned}
+use Rattle.holes.specs.Holes.{startOf, holeAt, rightsOf, smallOf, skips, Joinable}
+use Rattle.ordering.specs.Order.{orderOf, Ordered}
+use Rattle.cutting.specs.CutRing.{ringEntries, ringTriangles}
+use Rattle.triangulation.specs.Opened.{openEntries, openTriangles, lidOpen, BuffersFit, Prepares}
+use Rattle.joining.specs.Joined.{JoinsAll}
+use Rattle.lid.proofs.Facts.{joinAll-log, holes-each, rings-count}
+use Rattle.holes.proofs.HoleLaws.{start-last}
+use Rattle.triangulation.proofs.OrderLaws.{order-is, skips-are, order-joinable, order-adds, sum-two}
+use Rattle.entries.proofs.RecordLaws.{log-some}
 use Rattle.splicing.proofs.SpliceLaws.{front-back}
 
-pub ears-few : (es : List Entry) → length (earsOf es) ≤ length es
-unfolding earsOf
-ears-few [] = le-refl 0
-ears-few (e ∷ es) = go (eqb (e .mark) 1) (ears-few es)
-  where
-    go : (b : Bool) → length (earsOf es) ≤ length es → length (cond b (triangle (e .a) (e .b) (e .c) ∷ earsOf es) (earsOf es)) ≤ suc (length es)
-    go true h = omega arith
-    go false h = omega arith
-
--- what `cut_ring` does after `clip`
-module _ (fs : List Flat) (ring ring′ log log₁ : List ℕ) (n : ℕ) (triangles triangles₁ : List ℕ) (c : Clipped)
-    (clipped : Clips (clip fs (length ring) ring) ring′ log log₁ n triangles triangles₁ c) where
-  pub left-few : c .left ≤ length ring
-  left-few = omega (arith, clipped .size, clip-size fs (length ring) ring)
-
-  pub entries-few : c .entries + c .left ≡ n + length ring
-  entries-few = omega (arith, clipped .size, clipped .counted, clip-size fs (length ring) ring)
-
-  pub ears-low : c .triangles ≤ length ring
-  ears-low = omega (arith, clipped .offered, ears-few (clip fs (length ring) ring .log), clip-size fs (length ring) ring)
-
-  pub cut-draws : (log₂ triangles₂ : List ℕ) (count : ℕ) → log₂ ≡ logWith log₁ (c .entries) (map (λ a. entry 3 a 0 0) (take (c .left) ring′))
-      → triangles₂ ≡ trianglesWith triangles₁ (c .triangles) (lastTriangle fs (take (c .left) ring′)) → count ≡ c .triangles + length (lastTriangle fs (take (c .left) ring′))
-      → WritesLid (ringEntries (clip fs (length ring) ring)) (ringTriangles fs (clip fs (length ring) ring)) log log₂ n triangles triangles₂
-      (record { entries = c .entries + c .left; triangles = count })
-  cut-draws log₂ triangles₂ count w d o =
-      let k = clip fs (length ring) ring in
-      let left : List Entry = map (λ a. entry 3 a 0 0) (k .ring) in
-      let w′ : log₂ ≡ logWith log₁ (c .entries) left = rw (clipped .remains) at w in
-      let d′ : triangles₂ ≡ trianglesWith triangles₁ (c .triangles) (lastTriangle fs (k .ring)) = rw (clipped .remains) at d in
-      let o′ : count ≡ c .triangles + length (lastTriangle fs (k .ring)) = rw (clipped .remains) at o in
-      record {
-        written = w′ ∙ log-some log log₁ _ n (c .entries) (k .log) left (clipped .written) (clipped .counted) refl;
-        entries = omega (arith, clipped .counted, clipped .size, length-append (k .log) left, length-map (k .ring) (λ (a : ℕ). entry 3 a 0 0));
-        drawn = d′ ∙ triangles-some triangles triangles₁ _ 0 (c .triangles) (earsOf (k .log)) (lastTriangle fs (k .ring)) (clipped .ears) (clipped .offered ∙ sym (zero-add (length (earsOf (k .log))))) refl;
-        offered = o′ ∙ omega (arith, clipped .offered, length-append (earsOf (k .log)) (lastTriangle fs (k .ring)));
-      }
+pub join-rooms : (n k long : ℕ) → n + k + long + 1 < 2 ^ 32 → (long < 2 ^ 32) × (n + k < 2 ^ 32)
+join-rooms n k long room = (omega (arith, room), omega (arith, room))
 
 -- what `join_and_cut` does: j are the holes joined
 module _ (fs : List Flat) (hs : List Hole) (ring ring′ log log₁ : List ℕ) (n m : ℕ) (joined : JoinsAll (joinAll fs hs ring) ring′ log log₁ n m) where
   pub joined-fits : m ≤ length ring′
   joined-fits = omega (arith, ap length (joined .joined), joined .places, length-take m ring′)
+
+  pub joined-room : (k long hole hole′ : ℕ) → length ring′ ≡ long → hole′ ≡ hole → n + k + long + 1 < 2 ^ 32 → long ≤ hole
+      → (n + k + length (take m ring′) + 1 < 2 ^ 32) × (length (take m ring′) ≤ hole′)
+  joined-room k long hole hole′ kept held room fits =
+      let size : length (take m ring′) ≡ m = length-take-le m ring′ joined-fits in
+      (omega (arith, size, joined-fits, kept, room), omega (arith, size, joined-fits, kept, held, fits))
 
   pub joined-draws : (log₂ triangles triangles₂ : List ℕ) (k : ℕ) (r : LidCounts) → k ≡ length hs
       → WritesLid (ringEntries (clip fs (length (take m ring′)) (take m ring′))) (ringTriangles fs (clip fs (length (take m ring′)) (take m ring′))) log₁ log₂ (n + k) triangles triangles₂ r
@@ -86,6 +59,44 @@ module _ (fs : List Flat) (hs : List Hole) (ring ring′ log log₁ : List ℕ) 
         drawn = d .drawn;
         offered = d .offered;
       }
+
+pub still : {n k m : ℕ} → m ≡ k → n ≤ k → n ≤ m
+still {n} e h = subst (λ (i : ℕ). n ≤ i) (sym e) h
+
+-- the first part of a buffer is no longer than asked for
+pub front-few : {A : Type 0} (n : ℕ) (l : List A) (m : ℕ) → n ≤ m → length (take n l) ≤ m
+front-few n l m h = omega (arith, length-take n l, h)
+
+pub front-low : {A : Type 0} (n : ℕ) (l : List A) → n ≤ 32 → (length (take n l) < 2 ^ 31) × (length (take n l) < 2 ^ 32)
+front-low n l h = (omega (arith, length-take n l, h), omega (arith, length-take n l, h))
+
+-- buffers with room
+pub buffers-fit : (outer : ℕ) (counts : List ℕ) (n : ℕ) → n ≤ 576 → length counts ≤ 32 → cornerTotal outer counts + (length counts + length counts) ≤ n → BuffersFit outer counts n n
+buffers-fit outer counts n few holes places = record { holes = holes; places = omega (arith, places, sum-two counts); few = few; same = refl }
+
+pub all-places : (outer : ℕ) (counts : List ℕ) → cornerTotal outer counts ≤ 512 → length counts ≤ 32 → cornerTotal outer counts + (length counts + length counts) ≤ 576
+all-places outer counts corners holes = omega (arith, corners, holes)
+
+pub few-places : (outer : ℕ) (counts : List ℕ) (corners : ℕ) → corners ≡ startOf outer counts (length counts) → corners + 2 * length counts ≤ 32
+    → cornerTotal outer counts + (length counts + length counts) ≤ 32
+few-places outer counts corners e h = omega (arith, e, start-last outer counts, h)
+
+module _ (outer : ℕ) (counts : List ℕ) (ring hole : ℕ) (fit : BuffersFit outer counts ring hole) where
+  pub outer-fits : outer ≤ ring
+  outer-fits = omega (arith, fit .places)
+
+  pub corners-low : cornerTotal outer counts < 2 ^ 32
+  corners-low = omega (arith, fit .places, fit .few, sum-two counts)
+
+  pub counts-fit : sumOf (λ n. n) counts ≤ hole
+  counts-fit = omega (arith, fit .places, fit .same, sum-two counts)
+
+module _ (outer : ℕ) (counts ring : List ℕ) (hole : ℕ) where
+  pub outer-low : BuffersFit outer counts (length ring) hole → 0 + length (take outer ring) < 2 ^ 32
+  outer-low fit = omega (arith, length-take outer ring, fit .places, fit .few)
+
+  pub outer-kept : (x : List ℕ) → length x ≡ length (take outer ring) → BuffersFit outer counts (length ring) hole → BuffersFit outer counts (length (x ++ drop outer ring)) hole
+  outer-kept x same fit = subst (λ (n : ℕ). BuffersFit outer counts n hole) (sym (length-front ring x outer same)) fit
 
 module _ (fs : List Flat) (outer : ℕ) (counts : List ℕ) where
   -- what `prepare` does
@@ -103,38 +114,27 @@ module _ (fs : List Flat) (outer : ℕ) (counts : List ℕ) where
         joinable = rw stands (order-joinable fs outer counts room fits);
       }
 
-  -- the holes that `prepare` leaves in a part x of the buffer of orders
-  module _ (room : ℕ) (order x ring log log₁ : List ℕ) (p : Prepared) (done : Prepares fs outer counts room x log log₁ p) (n : ℕ) where
-    abbrev order′ : List ℕ
-    order′ = take (p .holes) (x ++ drop n order)
+  -- what `cut_open` does after `prepare`, which leaves the holes in a buffer of orders
+  module _ (room : ℕ) (order log log₁ : List ℕ) (p : Prepared) (done : Prepares fs outer counts room order log log₁ p) where
+    pub order-joins : (hole : ℕ) → hole ≡ room → Each (Joinable counts hole) (take (p .holes) order)
+    order-joins hole e = subst (λ (n : ℕ). Each (Joinable counts n) (take (p .holes) order)) (sym e) (done .joinable)
 
-    same-order : take (p .holes) (x ++ drop n order) ≡ take (p .holes) x
-    same-order = take-append-le (p .holes) x (drop n order) (done .fewer)
+    pub order-fits : (ring hole : ℕ) → BuffersFit outer counts ring room → length order ≡ 32 → hole ≡ room
+        → (outer + sumOf (λ g. getD counts g 0 + 2) (take (p .holes) order) ≤ ring) × (p .entries + length (take (p .holes) order) + ring + 1 < 2 ^ 32) × (ring ≤ hole)
+    order-fits ring hole fit size e = (
+      omega (arith, order-adds fs outer counts (take (p .holes) order) (done .ordered), fit .places),
+      omega (arith, done .entries, holes-each fs 0 (ringsFrom outer counts), rings-count outer counts, length-take (p .holes) order, fit .holes, fit .few),
+      omega (arith, fit .same, e),
+    )
 
-    pub fits-buffer : p .holes ≤ length (x ++ drop n order)
-    fits-buffer = omega (arith, done .fewer, length-append x (drop n order))
-
-    pub few-entries : p .entries ≤ length counts
-    few-entries = omega (arith, done .entries, holes-each fs 0 (ringsFrom outer counts), rings-count outer counts)
-
-    pub few-holes : length order′ ≤ length x
-    few-holes = omega (arith, ap length same-order, length-take (p .holes) x)
-
-    pub order-joins : Each (Joinable counts room) order′
-    order-joins = rw same-order (done .joinable)
-
-    pub order-fits : cornerTotal outer counts ≤ 512 → length counts ≤ 32 → outer + sumOf (λ g. getD counts g 0 + 2) order′ ≤ 576
-    order-fits c h = omega (arith, order-adds fs outer counts order′ (rw same-order (done .ordered)), sum-two counts)
-
-    pub open-draws : (log₂ triangles triangles₂ : List ℕ) (r : LidCounts) → take outer ring ≡ turnOuter fs (list (λ i. i) outer 0)
-        → WritesLid (openEntries fs (joinAll fs (map (holeAt fs outer counts) order′) (take outer ring))) (openTriangles fs (joinAll fs (map (holeAt fs outer counts) order′) (take outer ring))) log₁ log₂ (p .entries) triangles triangles₂ r
+    pub open-draws : (ring log₂ triangles triangles₂ : List ℕ) (r : LidCounts) → take outer ring ≡ turnOuter fs (list (λ i. i) outer 0)
+        → WritesLid (openEntries fs (joinAll fs (map (holeAt fs outer counts) (take (p .holes) order)) (take outer ring))) (openTriangles fs (joinAll fs (map (holeAt fs outer counts) (take (p .holes) order)) (take outer ring))) log₁ log₂ (p .entries) triangles triangles₂ r
         → WritesLid (lidOpen fs outer counts .log) (lidOpen fs outer counts .triangles) log log₂ 0 triangles triangles₂ r
     unfolding lidFrom
-    open-draws log₂ triangles triangles₂ r turned drew =
+    open-draws ring log₂ triangles triangles₂ r turned drew =
         let j = joinAll fs (inOrder fs (holesFrom fs 0 (ringsFrom outer counts))) (turnOuter fs (list (λ i. i) outer 0)) in
         let skipped = skippedFrom fs 0 (ringsFrom outer counts) in
-        let holes = ap (map (holeAt fs outer counts)) same-order ∙ done .ordered in
-        let d : WritesLid (openEntries fs j) (openTriangles fs j) log₁ log₂ (p .entries) triangles triangles₂ r = rw (holes, turned) at drew in
+        let d : WritesLid (openEntries fs j) (openTriangles fs j) log₁ log₂ (p .entries) triangles triangles₂ r = rw (done .ordered, turned) at drew in
         let whole : skipped ++ openEntries fs j ≡ lidOpen fs outer counts .log = simp append-assoc in
         record {
           written = d .written ∙ log-some log log₁ _ 0 (p .entries) skipped (openEntries fs j) (done .written) (done .entries ∙ sym (zero-add (length skipped))) refl ∙ ap (logWith log 0) whole;

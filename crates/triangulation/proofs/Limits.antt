@@ -23,8 +23,8 @@ use Rattle.lid.specs.Clipping.{clip}
 use Rattle.lid.specs.Lid.{Lid, earsOf, lastTriangle, lidFrom, lidRings, lidOf}
 use Rattle.lid.specs.Written.{triangleRecord, triangleNumbers, logWith, trianglesWith, cornerTotal}
 use Rattle.lid.proofs.Facts.{joinedAll, ring-size, open-size, clip-size}
-use Rattle.triangulation.proofs.LidLaws.{ears-few}
-use Rattle.holes.proofs.OrderLaws.{sum-two}
+use Rattle.cutting.proofs.CutLaws.{ears-few}
+use Rattle.triangulation.proofs.OrderLaws.{sum-two}
 
 -- ---- sizes
 

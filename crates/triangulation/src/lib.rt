@@ -4,88 +4,24 @@ ghost use mathlib.Core.List.{map};
 ghost use Prim.Native.Nat.{_+_, _<_, _≤_, _^_};
 ghost use lib.ListN.{length, getD, take};
 ghost use Rattle.lists.specs.Loops.{sumOf};
-ghost use Rattle.lid.specs.Log.{entry};
 ghost use Rattle.lists.specs.Each.{Each};
 ghost use Rattle.lists.specs.Loops.{list};
 ghost use Rattle.lid.specs.Rings.{flats, turnOuter};
 ghost use Rattle.lid.specs.Bridges.{joinAll};
-ghost use Rattle.lid.specs.Clipping.{clip};
-ghost use Rattle.lid.specs.Lid.{lastTriangle, lidOf};
-ghost use Rattle.lid.specs.Written.{logWith, trianglesWith, cornerTotal, WritesLid};
-ghost use Rattle.holes.specs.Holes.{holeAt, Joinable, Prepares, ringEntries, ringTriangles, openEntries, openTriangles, lidOpen, BuffersFit};
-use ears::clipping::clip;
-use holes::holes::order_holes;
-use holes::holes::put_skipped;
-use holes::holes::survey;
-use holes::joining::join_holes;
-use lid::CornerNumber;
+ghost use Rattle.lid.specs.Lid.{lidOf};
+ghost use Rattle.lid.specs.Written.{cornerTotal, WritesLid};
+ghost use Rattle.holes.specs.Holes.{holeAt, Joinable};
+ghost use Rattle.triangulation.specs.Opened.{Prepares, openEntries, openTriangles, lidOpen, BuffersFit};
+use cutting::cut_ring;
+use entries::put_entry;
+use holes::hole_start;
+use holes::put_skipped;
+use holes::survey;
+use joining::join_holes;
 use lid::LidCounts;
 use lid::Prepared;
-use places::flat_at;
-use places::turn;
-use ring::records::put_entry;
-use ring::records::put_triangle;
-use ring::rings::write_ring;
-
-// Writes an entry for each corner left, from entry n of the log on.
-fn put_left(ring: &[u32], log: &mut [u32], n: u32)
-    requires { ⌜ n + length (now ring) < 2 ^ 32 ⌝ }
-    ensures { λ _. ⌜ now (log .exit) ≡ logWith (now (log .entry)) n (map (λ a. entry 3 a 0 0) (now (ring .entry))) ⌝ }
-{
-    let mut k = 0;
-    let mut entries = n;
-    while k < ring.len() {
-        put_entry(log, entries, 3, ring[k], 0, 0);
-        entries += 1;
-        k += 1;
-    }
-}
-
-// Writes the triangle of the corners left, if they are three that turn left. The result is how many triangles there then are.
-fn put_last(us: &[f32], vs: &[f32], ring: &[u32], triangles: &mut [u32], count: u32) -> u32
-    requires { ⌜ count + 1 < 2 ^ 32 ⌝ }
-    ensures { λ r. ⌜ r ≡ count + length (lastTriangle (flats (now (us .entry)) (now (vs .entry))) (now (ring .entry))) ⌝ }
-    ensures { λ _. ⌜ now (triangles .exit) ≡ trianglesWith (now (triangles .entry)) count (lastTriangle (flats (now (us .entry)) (now (vs .entry))) (now (ring .entry))) ⌝ }
-{
-    if ring.len() != 3 {
-        return count;
-    }
-    let a = ring[0];
-    let b = ring[1];
-    let c = ring[2];
-    let u = flat_at(us, vs, CornerNumber(a));
-    let v = flat_at(us, vs, CornerNumber(b));
-    let w = flat_at(us, vs, CornerNumber(c));
-    if turn(u, v, w) > 0.0 {
-        put_triangle(triangles, count, a, b, c);
-        return count + 1;
-    }
-    count
-}
-
-// Clips a ring, with room for a note per place, from entry n of the log on, and writes what is left.
-fn cut_ring(
-    us: &[f32],
-    vs: &[f32],
-    ring: &mut [u32],
-    why: &mut [u32],
-    log: &mut [u32],
-    n: u32,
-    triangles: &mut [u32],
-) -> LidCounts
-    requires { ⌜ n + length (now ring) + 1 < 2 ^ 32 ⌝ }
-    requires { ⌜ length (now ring) ≤ length (now why) ⌝ }
-    ensures { λ r. ⌜ WritesLid (ringEntries (clip (flats (now (us .entry)) (now (vs .entry))) (length (now (ring .entry))) (now (ring .entry)))) (ringTriangles (flats (now (us .entry)) (now (vs .entry))) (clip (flats (now (us .entry)) (now (vs .entry))) (length (now (ring .entry))) (now (ring .entry)))) (now (log .entry)) (now (log .exit)) n (now (triangles .entry)) (now (triangles .exit)) r ⌝ }
-{
-    let c = clip(us, vs, ring, why, log, n, triangles);
-    let left = c.left;
-    put_left(&ring[..left], log, c.entries);
-    let count = put_last(us, vs, &ring[..left], triangles, c.triangles);
-    LidCounts {
-        entries: c.entries + left as u32,
-        triangles: count,
-    }
-}
+use ordering::order_holes;
+use ring::write_ring;
 
 // Writes the entries of the holes that are skipped, and puts the others in joining order.
 fn prepare(
@@ -94,19 +30,20 @@ fn prepare(
     outer: u32,
     counts: &[u32],
     hole: &mut [u32],
-    rights: &mut [f32],
-    small: &mut [bool],
     order: &mut [u32],
     log: &mut [u32],
 ) -> Prepared
     requires { ⌜ (cornerTotal outer (now counts) < 2 ^ 32) × (length (now counts) ≤ 32) ⌝ }
     requires { ⌜ sumOf (λ n. n) (now counts) ≤ length (now hole) ⌝ }
-    requires { ⌜ (length (now rights) ≡ length (now counts)) × (length (now small) ≡ length (now counts)) × (length (now order) ≡ length (now counts)) ⌝ }
+    requires { ⌜ length (now counts) ≤ length (now order) ⌝ }
     ensures { λ r. ⌜ Prepares (flats (now (us .entry)) (now (vs .entry))) outer (now (counts .entry)) (length (now (hole .entry))) (now (order .exit)) (now (log .entry)) (now (log .exit)) r ⌝ }
 {
-    survey(us, vs, outer, counts, hole, rights, small);
-    let entries = put_skipped(small, log);
-    let holes = order_holes(rights, small, order);
+    let mut rights = [0.0; 32];
+    let mut small = [false; 32];
+    survey(us, vs, outer, counts, hole, &mut rights, &mut small);
+    let n = counts.len();
+    let entries = put_skipped(&small[..n], log);
+    let holes = order_holes(&rights[..n], &small[..n], order);
     Prepared { entries, holes }
 }
 
@@ -153,28 +90,15 @@ fn cut_open(
     counts: &[u32],
     ring: &mut [u32],
     hole: &mut [u32],
-    rights: &mut [f32],
-    small: &mut [bool],
-    order: &mut [u32],
     log: &mut [u32],
     ts: &mut [u32],
 ) -> LidCounts
-    requires { ⌜ BuffersFit outer (now counts) (length (now ring)) (length (now hole)) (length (now rights)) (length (now small)) (length (now order)) ⌝ }
+    requires { ⌜ BuffersFit outer (now counts) (length (now ring)) (length (now hole)) ⌝ }
     requires { ⌜ take outer (now ring) ≡ turnOuter (flats (now us) (now vs)) (list (λ i. i) outer 0) ⌝ }
     ensures { λ r. ⌜ WritesLid (lidOpen (flats (now (us .entry)) (now (vs .entry))) outer (now (counts .entry)) .log) (lidOpen (flats (now (us .entry)) (now (vs .entry))) outer (now (counts .entry)) .triangles) (now (log .entry)) (now (log .exit)) 0 (now (ts .entry)) (now (ts .exit)) r ⌝ }
 {
-    let n = counts.len();
-    let p = prepare(
-        us,
-        vs,
-        outer,
-        counts,
-        hole,
-        &mut rights[..n],
-        &mut small[..n],
-        &mut order[..n],
-        log,
-    );
+    let mut order = [0; 32];
+    let p = prepare(us, vs, outer, counts, hole, &mut order, log);
     let c = p.holes;
     let e = p.entries;
     join_and_cut(us, vs, outer, counts, &order[..c], ring, hole, log, e, ts)
@@ -188,13 +112,10 @@ fn cut_lid(
     counts: &[u32],
     ring: &mut [u32],
     hole: &mut [u32],
-    rights: &mut [f32],
-    small: &mut [bool],
-    order: &mut [u32],
     log: &mut [u32],
     triangles: &mut [u32],
 ) -> LidCounts
-    requires { ⌜ BuffersFit outer (now counts) (length (now ring)) (length (now hole)) (length (now rights)) (length (now small)) (length (now order)) ⌝ }
+    requires { ⌜ BuffersFit outer (now counts) (length (now ring)) (length (now hole)) ⌝ }
     ensures { λ r. ⌜ WritesLid (lidOf (flats (now (us .entry)) (now (vs .entry))) outer (now (counts .entry)) .log) (lidOf (flats (now (us .entry)) (now (vs .entry))) outer (now (counts .entry)) .triangles) (now (log .entry)) (now (log .exit)) 0 (now (triangles .entry)) (now (triangles .exit)) r ⌝ }
 {
     let m = outer as usize;
@@ -205,19 +126,24 @@ fn cut_lid(
             triangles: 0,
         };
     }
-    cut_open(
-        us,
-        vs,
-        outer,
-        counts,
-        ring,
-        hole,
-        rights,
-        small,
-        order,
-        log,
-        triangles,
-    )
+    cut_open(us, vs, outer, counts, ring, hole, log, triangles)
+}
+
+// As `triangulate`, for a lid of at most 32 places: most have few corners, and small arrays are cleared sooner.
+fn triangulate_few(
+    us: &[f32],
+    vs: &[f32],
+    outer: u32,
+    counts: &[u32],
+    log: &mut [u32],
+    triangles: &mut [u32],
+) -> LidCounts
+    requires { ⌜ (cornerTotal outer (now counts) + (length (now counts) + length (now counts)) ≤ 32) × (length (now counts) ≤ 32) ⌝ }
+    ensures { λ r. ⌜ WritesLid (lidOf (flats (now (us .entry)) (now (vs .entry))) outer (now (counts .entry)) .log) (lidOf (flats (now (us .entry)) (now (vs .entry))) outer (now (counts .entry)) .triangles) (now (log .entry)) (now (log .exit)) 0 (now (triangles .entry)) (now (triangles .exit)) r ⌝ }
+{
+    let mut ring = [0; 32];
+    let mut hole = [0; 32];
+    cut_lid(us, vs, outer, counts, &mut ring, &mut hole, log, triangles)
 }
 
 // Cuts the lid of an outline's flat corners, whose coordinates are `us` and `vs`: `outer` corners and then those of the holes, of the given
@@ -233,22 +159,11 @@ pub fn triangulate(
     requires { ⌜ (cornerTotal outer (now counts) ≤ 512) × (length (now counts) ≤ 32) ⌝ }
     ensures { λ r. ⌜ WritesLid (lidOf (flats (now (us .entry)) (now (vs .entry))) outer (now (counts .entry)) .log) (lidOf (flats (now (us .entry)) (now (vs .entry))) outer (now (counts .entry)) .triangles) (now (log .entry)) (now (log .exit)) 0 (now (triangles .entry)) (now (triangles .exit)) r ⌝ }
 {
+    let n = counts.len();
+    if hole_start(outer, counts, n) as usize + 2 * n <= 32 {
+        return triangulate_few(us, vs, outer, counts, log, triangles);
+    }
     let mut ring = [0; 576];
     let mut hole = [0; 576];
-    let mut rights = [0.0; 32];
-    let mut small = [false; 32];
-    let mut order = [0; 32];
-    cut_lid(
-        us,
-        vs,
-        outer,
-        counts,
-        &mut ring,
-        &mut hole,
-        &mut rights,
-        &mut small,
-        &mut order,
-        log,
-        triangles,
-    )
+    cut_lid(us, vs, outer, counts, &mut ring, &mut hole, log, triangles)
 }

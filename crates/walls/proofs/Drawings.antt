@@ -3,20 +3,14 @@ use mathlib.Core.Path.{_≡_, refl, sym, ap, _∙_}
 use Prim.Native.Nat.{ℕ, suc, _+_, _-_, _<_, _≤_}
 use native.Mathlib.Numerals.{add-one}
 use native.Mathlib.Nat.{sub-zero}
-use native.Mathlib.Omega.{arith}
 use mathlib.Core.List.{List, [], _∷_, _++_}
 use lib.Ieee.{Float}
 use Rattle.lists.specs.Loops.{list}
 use Rattle.lists.proofs.Loops.{list-step}
 use Rattle.lists.proofs.Tests.{list-none}
-use Rattle.face.specs.declared.Tally.{Tally}
 use Rattle.face.specs.Faces.{Face}
-use Rattle.face.specs.Drawing.{Drawing, drawn, Drew, Room}
+use Rattle.face.specs.Drawing.{Drawing, drawn, Drew}
 use Rattle.face.proofs.Draws.{then, drew-none}
-
--- less room than there is
-pub room-less : {before : ℕ} {t : Tally} {v k w j : ℕ} → Room before t v k → w ≤ v → j ≤ k → Room before t w j
-room-less r h g = record { vertices = omega (arith, r .vertices); kept = omega (arith, r .kept); thin = omega (arith, r .thin) }
 
 module _ (limit : Float) (before : ℕ) where
   -- with the faces fs drawn, those behind them are left

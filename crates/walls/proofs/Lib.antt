@@ -1,3 +1,2 @@
 pub mod Drawings
-pub mod CornerLaws
 pub mod WallLaws

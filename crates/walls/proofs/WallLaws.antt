@@ -13,7 +13,8 @@ use Rattle.lists.proofs.Loops.{list-step}
 use Rattle.lists.proofs.Places.{next-in}
 use Rattle.lists.proofs.Tests.{list-none}
 use Rattle.vectors.specs.declared.Vector.{Vector}
-use Rattle.vectors.specs.Vectors.{zeroV, negate}
+use Rattle.vectors.specs.Vectors.{zeroV, negate, cross}
+use Rattle.coords.specs.Coords.{diff}
 use Rattle.object.specs.declared.Corner.{Corner}
 use Rattle.fields.specs.Fields.{cornerAt, cornersAt, holesAt}
 use Rattle.scene.proofs.Parts.{corners-get, corners-length}
@@ -24,7 +25,7 @@ use Rattle.lid.specs.Plane.{about}
 use Rattle.shapes.specs.Shapes.{corner0, wall, walls, outerWalls, holeWalls}
 use Rattle.shapes.proofs.Sizes.{walls-points}
 use Rattle.shapes.proofs.Prices.{walls-count}
-use Rattle.walls.specs.Outlines.{wallBetween}
+use Rattle.lid_plane.specs.Outlines.{wallBetween}
 use Rattle.walls.proofs.Drawings.{left-to-draw, none-to-draw}
 
 -- wall k is drawn where it is drawn between corner k and the next, where they lie
@@ -36,10 +37,12 @@ module _ (s : List ℕ) (n at : ℕ) (normal : Vector) (k : ℕ) (h : k < n) whe
       ∙ ap (λ (a : Corner). wallBetween a (getD (cornersAt s n at) (next n k) corner0) normal) (corners-get s n at k corner0 h)
       ∙ ap (λ (b : Corner). wallBetween (cornerAt s (at + 24 * k)) b normal) (corners-get s n at (next n k) corner0 (next-in n k (omega arith))))
 
-  pub wall-drew : {limit : Float} {before : ℕ} {a b : Corner} {d d′ : Drawing} → a ≡ cornerAt s (at + 24 * k) → b ≡ cornerAt s (at + 24 * next n k)
-      → Drew limit (wallBetween a b normal ∷ []) before d d′ → Drew limit (wall (cornersAt s n at) normal k ∷ []) before d d′
-  wall-drew {limit} {before} {a} {b} {d} {d′} p q =
-      subst (λ (f : Face). Drew limit (f ∷ []) before d d′) (ap₂ (λ (a b : Corner). wallBetween a b normal) p q ∙ wall-at)
+  pub wall-drew : {limit : Float} {before : ℕ} {a b : Corner} {edge out : Vector} {d d′ : Drawing} → a ≡ cornerAt s (at + 24 * k) → b ≡ cornerAt s (at + 24 * next n k)
+      → edge ≡ diff (b .base) (a .base) → out ≡ cross edge normal → Drew limit (quad 1 (a .base) (b .base) (b .top) (a .top) out ∷ []) before d d′
+      → Drew limit (wall (cornersAt s n at) normal k ∷ []) before d d′
+  wall-drew {limit} {before} {a} {b} {edge} {out} {d} {d′} p q e o =
+      subst (λ (f : Face). Drew limit (f ∷ []) before d d′)
+      (ap (quad 1 (a .base) (b .base) (b .top) (a .top)) (o ∙ ap (λ (v : Vector). cross v normal) e) ∙ ap₂ (λ (a b : Corner). wallBetween a b normal) p q ∙ wall-at)
 
 -- the room that walls leave
 module _ {limit : Float} {before : ℕ} {d d′ : Drawing} (cs : List Corner) (normal : Vector) where
@@ -61,7 +64,15 @@ outer-room s n at false lid m r room p h = let cs = cornersAt s n at in walls-ro
 pub start-room : (before m : ℕ) → before ≤ 33554432 → m ≤ 512 → Room before (tally 0 0 0) (4 * m) (2 * m)
 start-room before m h g = record { vertices = omega arith; kept = omega arith; thin = omega arith }
 
--- and those of a hole
+-- the walls of a hole, all round and facing into it
+pub hole-drew : {limit : Float} {before : ℕ} {round inward : Vector} {d d′ : Drawing} (s : List ℕ) (n at : ℕ) (lid : Vector) → round ≡ about (cornersAt s n at) lid → inward ≡ negate round
+    → Drew limit (walls (cornersAt s n at) inward n) before d d′ → Drew limit (holeWalls lid (cornersAt s n at)) before d d′
+unfolding holeWalls
+hole-drew {limit} {before} {round} {inward} {d} {d′} s n at lid r i =
+    subst (λ (fs : List Face). Drew limit fs before d d′)
+    (ap₂ (walls (cornersAt s n at)) (i ∙ ap negate r) (sym (corners-length s n at)))
+
+-- they leave room for those of r corners more
 pub hole-room : {limit : Float} {before : ℕ} {d d′ : Drawing} (s : List ℕ) (n at : ℕ) (lid : Vector) (m r : ℕ)
     → Room before (d .tally) (4 * m) (2 * m) → Drew limit (holeWalls lid (cornersAt s n at)) before d d′ → n + r ≤ m → Room before (d′ .tally) (4 * r) (2 * r)
 unfolding holeWalls

@@ -1,43 +1,17 @@
 // The walls of an outline, `walls` of object_mesh.rs: one from each corner to the next.
-
-pub mod planes;
-
 ghost use mathlib.Core.Path.{_≡_};
-ghost use mathlib.Core.List.{[], _∷_};
 ghost use Prim.Native.Nat.{_+_, _*_, _<_, _≤_};
 ghost use Rattle.lists.specs.Loops.{join, sumOf};
 ghost use Rattle.fields.specs.Fields.{cornersAt, countsAt, holesAt};
 ghost use Rattle.face.specs.Drawing.{drawing, Drew, Room};
 ghost use Rattle.shapes.specs.Shapes.{walls, holeWalls};
-ghost use Rattle.walls.specs.Outlines.{Near, wallBetween};
-use crate::planes::about;
-use crate::planes::next_place;
+ghost use Rattle.lid_plane.specs.Outlines.{Near};
 use face::Tally;
 use fields::u16_at;
 use geometry::corner_at;
-use object::Corner;
+use lid_plane::about;
+use lid_plane::next_place;
 use vectors::Vector;
-
-// The wall from corner a to corner b.
-fn wall(
-    a: Corner,
-    b: Corner,
-    normal: Vector,
-    limit: f32,
-    before: u32,
-    t: Tally,
-    vs: &mut [f32],
-    ns: &mut [f32],
-    is: &mut [u32],
-) -> Tally
-    requires { ⌜ Room before t 4 2 ⌝ }
-    ensures { λ r. ⌜ Drew limit (wallBetween a b normal ∷ []) before (drawing t (now (vs .entry)) (now (ns .entry)) (now (is .entry))) (drawing r (now (vs .exit)) (now (ns .exit)) (now (is .exit))) ⌝ }
-{
-    let p = a.base;
-    let q = b.base;
-    let out = q.sub(p).cross(normal);
-    face::quad(p, q, b.top, a.top, out, limit, before, t, vs, ns, is)
-}
 
 // The first `edges` walls of n corners at `at`.
 pub fn walls(
@@ -61,34 +35,16 @@ pub fn walls(
     let mut k = 0;
     while k < edges {
         let b = corner_at(s, next_place(at, n, k));
-        t = wall(a, b, normal, limit, before, t, vs, ns, is);
-        a = b;
+        let p = a.base;
+        let out = b.base.sub(p).cross(normal);
         k += 1;
+        t = face::quad(p, b.base, b.top, a.top, out, limit, before, t, vs, ns, is);
+        a = b;
     }
     t
 }
 
-// The walls of a hole of n corners at `at`, which face into it.
-fn hole_wall(
-    s: &[u8],
-    at: usize,
-    n: usize,
-    lid: Vector,
-    limit: f32,
-    before: u32,
-    t: Tally,
-    vs: &mut [f32],
-    ns: &mut [f32],
-    is: &mut [u32],
-) -> Tally
-    requires { ⌜ Near at n × Room before t (4 * n) (2 * n) ⌝ }
-    ensures { λ r. ⌜ Drew limit (holeWalls lid (cornersAt (now (s .entry)) n at)) before (drawing t (now (vs .entry)) (now (ns .entry)) (now (is .entry))) (drawing r (now (vs .exit)) (now (ns .exit)) (now (is .exit))) ⌝ }
-{
-    let normal = about(s, at, n, lid).neg();
-    walls(s, at, n, normal, n, limit, before, t, vs, ns, is)
-}
-
-// The walls of all holes, whose counts are at `counts` and whose corners are at `at`.
+// The walls of all holes, which face into them; their counts are at `counts`, their corners at `at`.
 pub fn hole_walls(
     s: &[u8],
     counts: usize,
@@ -111,9 +67,11 @@ pub fn hole_walls(
     let mut k = 0;
     while k < holes {
         let n = u16_at(s, counts + 2 * k) as usize;
-        t = hole_wall(s, place, n, lid, limit, before, t, vs, ns, is);
+        let here = place;
         place += 24 * n;
         k += 1;
+        let normal = about(s, here, n, lid).neg();
+        t = walls(s, here, n, normal, n, limit, before, t, vs, ns, is);
     }
     t
 }

@@ -1,4 +1,5 @@
 -- `bridges::inside` meets its contract. Assumes nothing.
+use mathlib.Core.Path.{refl}
 use Prim.Native.Nat.{_-_}
 use borrow.Author.Needs.{needs}
 use Rattle.lid.specs.Bridges.{inside}
@@ -7,7 +8,7 @@ use Rattle.bridges.proofs.inside.Tie as tie
 
 returns : tie.Need-returns
 unfolding inside
-returns c = cc
+returns c = rw (c .before .before .turn .ensures, c .before .turn2 .ensures, c .turn3 .ensures) refl
 
 pub inside-spec : {M : Type 1} → statement M
 inside-spec = tie.close

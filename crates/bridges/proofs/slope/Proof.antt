@@ -1,4 +1,5 @@
 -- `bridges::slope` meets its contract. Assumes nothing.
+use mathlib.Core.Path.{refl}
 use Prim.Native.Nat.{_-_}
 use borrow.Author.Needs.{needs}
 use Rattle.lid.specs.Bridges.{slopeOf}
@@ -7,7 +8,7 @@ use Rattle.bridges.proofs.slope.Tie as tie
 
 returns : tie.Need-returns
 unfolding slopeOf
-returns c = cc
+returns c = rw (c .before .before .before .abs .ensures, c .max .ensures) refl
 
 pub slope-spec : {M : Type 1} → statement M
 slope-spec = tie.close

@@ -1,28 +1,35 @@
 -- `build::build` meets its contract. Assumes nothing.
-use mathlib.Core.Path.{sym, _∙_}
+use mathlib.Core.Path.{refl, sym, subst}
 use borrow.Author.Needs.{needs}
-use Rattle.answers.proofs.Calls.{build-refused, build-accepted}
+use Rattle.scene_mesh.specs.Operations.{Buffers, Counts, lent, countsOf}
+use Rattle.build.specs.declared.Plan.{Plan}
+use Rattle.build.specs.Plan.{PlanHolds}
+use Rattle.build.proofs.Built.{built-planned}
 use Rattle.build.proofs.build.Statement.{statement}
 use Rattle.build.proofs.build.Tie as tie
 
-build-objects-requires : tie.Need-build-objects-requires
-build-objects-requires c κs =
-    let c₁ = c .before .before .before .before .before .before .before in
-    let c₂ = c₁ .before .before in
-    sym (c₁ .n .given .1) ∙ c₂ .check-scene .ensures
+write-objects-requires : tie.Need-write-objects-requires
+write-objects-requires c κs =
+    let c₁ = c .before .before .before .before .before .before .before .before in
+    (rw (c₁ .n .given .1) at (c₁ .before .before .plan-scene .ensures)) .0
 
 returns : tie.Need-returns
-returns c = build-refused _ _ _ _ (sym (c .before .f .given .1) ∙ c .before .before .before .check-scene .ensures)
+unfolding countsOf
+returns c =
+    let a = c .before .before .before .before .before .before .before .before .before .before .before .args in
+    (rw (c .before .a .given .1) at (c .before .before .before .plan-scene .ensures)) (lent (a .vertices .now) (a .normals .now) (a .indices .now) (a .spans .now) (a .account .now) (a .log .now)) refl
 
 returns-2 : tie.Need-returns-2
+unfolding countsOf
 returns-2 c =
     let c₁ = c .before .before .before .before .before .before .before .before .before .before .before .before in
-    let c₂ = c₁ .before .before .before .before .before .before .before .before in
-    let c₃ = c₂ .before .before in
-    build-accepted _ _ _ _ (sym (c₂ .n .given .1) ∙ c₃ .check-scene .ensures) (c₁ .build-objects .ensures)
+    let c₂ = c₁ .before .before .before .before .before .before .before .before .before in
+    let a = c₂ .before .before .before .before .before .before .before .before .before .before .args in
+    built-planned (a .s .now) _ _ _ (lent (a .vertices .now) (a .normals .now) (a .indices .now) (a .spans .now) (a .account .now) (a .log .now)) _ _ (rw (c₂ .n .given .1) at (c₂ .before .before .plan-scene .ensures)) refl (c₁ .before .before .before .before .before .before .before .min-area .ensures) (c₁ .write-objects .ensures)
 
 pub build-spec : {M : Type 1} → statement M
 build-spec =
     tie.close
-    (tie.spec (λ c κs. search needs) (λ c. search needs) (λ c. search needs) build-objects-requires returns (λ c. search needs) (λ c. search needs)
-    (λ c. search needs) (λ c. search needs) (λ c. search needs) (λ c. search needs) returns-2)
+    (tie.spec (λ c κs. tt) (λ c. search needs) (λ c. search needs) (λ c κs. tt) write-objects-requires returns
+    (λ c. c .before .before .before .before .before .before .before .before .before .before .before .vertices .given) (λ c. c .before .before .before .before .before .before .before .before .before .normals .given) (λ c. c .before .before .before .before .before .before .before .indices .given)
+    (λ c. c .before .before .before .before .before .spans .given) (λ c. c .before .before .before .account .given) (λ c. c .before .log .given) returns-2)

@@ -20,5 +20,5 @@ returns c =
 pub end-spec : {M : Type 1} → statement M
 end-spec =
     tie.close
-    (tie.spec (λ c κs. search needs) (λ c. search needs) (λ c. search needs) face-requires (λ c. search needs) (λ c. search needs) (λ c. search needs)
+    (tie.spec (λ c κs. tt) (λ c. search needs) (λ c. search needs) face-requires (λ c. c .before .before .before .before .before .before .face .kept .1 .1 .1 .1 .1 .1 .0) (λ c. c .before .before .before .before .before .before .face .kept .1 .1 .1 .1 .1 .1 .1 .0) (λ c. c .before .before .before .before .before .before .face .kept .1 .1 .1 .1 .1 .1 .1 .1 .0)
     returns)

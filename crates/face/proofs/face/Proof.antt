@@ -3,9 +3,8 @@ use mathlib.Core.Path.{_≡_}
 use Prim.Native.Nat.{_+_, _/_}
 use native.Mathlib.Omega.{arith}
 use lib.ListN.{length}
-use borrow.Author.Needs.{needs}
 use Rattle.face.proofs.OneFace.{all-counted, face-none, face-some}
-use Rattle.face.specs.Offered.{offered}
+use Rattle.offering.specs.Offered.{offered}
 use Rattle.face.proofs.face.Statement.{statement}
 use Rattle.face.proofs.face.Tie as tie
 
@@ -50,4 +49,4 @@ returns-2 c = λ part.
 pub face-spec : {M : Type 1} → statement M
 face-spec =
     tie.close
-    (tie.spec (λ c. search needs) (λ c κs. search needs) add-thin (λ c. search needs) returns put-points-requires cast-t24 add-t25 add-t26 (λ c. search needs) (λ c. search needs) (λ c. search needs) returns-2)
+    (tie.spec (λ c. omega (arith, c .before .before .before .before .before .before .pre .0 .vertices)) (λ c κs. let p = c .before .before .before .before .before .before .before .pre in (omega (arith, p .0 .vertices), p .0 .kept, p .1)) add-thin (λ c. c .before .before .before .before .before .before .offer-all .kept .1 .1 .1 .1 .1 .1 .0) returns put-points-requires cast-t24 add-t25 add-t26 (λ c. c .before .before .before .before .before .before .before .put-points .kept .1 .1 .1 .0) (λ c. c .before .before .before .before .before .before .before .put-points .kept .1 .1 .1 .1 .0) (λ c. c .before .before .before .before .before .before .before .before .before .before .before .before .before .before .before .before .before .offer-all .kept .1 .1 .1 .1 .1 .1 .0) returns-2)

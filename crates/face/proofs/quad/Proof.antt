@@ -1,9 +1,9 @@
 -- `face::quad` meets its contract. Assumes nothing.
+use mathlib.Core.Path.{refl}
 use native.Mathlib.Omega.{arith}
-use borrow.Author.Needs.{needs}
 use Rattle.coords.specs.Buffers.{verticesIn}
 use Rattle.face.specs.Faces.{fan, quad}
-use Rattle.face.specs.Offered.{trianglesIn}
+use Rattle.offering.specs.Triangles.{trianglesIn}
 use Rattle.lists.specs.Loops.{list}
 use Rattle.face.proofs.quad.Statement.{statement}
 use Rattle.face.proofs.quad.Tie as tie
@@ -19,4 +19,4 @@ returns c = λ part. c .before .before .before .before .before .before .face .en
 pub quad-spec : {M : Type 1} → statement M
 quad-spec =
     tie.close
-    (tie.spec (λ c. search needs) (λ c. search needs) face-requires (λ c. search needs) (λ c. search needs) (λ c. search needs) returns)
+    (tie.spec (λ c. refl) (λ c. refl) face-requires (λ c. c .before .before .before .before .before .before .face .kept .1 .1 .1 .1 .1 .1 .0) (λ c. c .before .before .before .before .before .before .face .kept .1 .1 .1 .1 .1 .1 .1 .0) (λ c. c .before .before .before .before .before .before .face .kept .1 .1 .1 .1 .1 .1 .1 .1 .0) returns)

@@ -1,5 +1,5 @@
 -- `lid_faces::put_points` meets its contract. Assumes nothing.
-use mathlib.Core.Path.{_≡_, refl}
+use mathlib.Core.Path.{_≡_, refl, _∙_}
 use Prim.Native.Nat.{_≤_, _+_, _-_, _*_}
 use native.Mathlib.Nat.{zero-add}
 use native.Mathlib.Omega.{arith}
@@ -10,7 +10,7 @@ use Rattle.coords.specs.Buffers.{vertexRecord, vertexNumbers}
 use Rattle.lists.proofs.Stores.{store-start, store-next, store-end}
 use Rattle.lists.specs.Loops.{list, join}
 use Rattle.fields.specs.Fields.{pointAt}
-use Rattle.walls.specs.Outlines.{pointsAt}
+use Rattle.lid_plane.specs.Outlines.{pointsAt}
 use Rattle.lid_faces.proofs.put_points.Statement.{statement}
 use Rattle.lid_faces.proofs.put_points.Tie as tie
 
@@ -29,7 +29,7 @@ loop-holds c =
 loop-again : tie.Need-loop-again Inv-loop μ-loop
 loop-again c =
     let a = c .before .before .before .before .before .before .before .before .before .args in
-    (omega arith, search needs, store-next vertexRecord 3 (λ p. refl) (λ j. pointAt (a .s .now) (a .at + 24 * j)) (a .n) 0 (c .before .before .before .before .before .before .loop .k) (c .before .before .before .before .before .before .loop .points) _ _ (c .before .before .before .before .before .loop-test .taken) (rw (zero-add (c .before .before .before .before .before .before .loop .k), ← c .before .before .before .before .point-at .ensures) (c .before .before .put-floats .ensures)) (c .before .before .before .before .before .before .loop .inv .2))
+    (omega arith, c .before .points .given ∙ c .before .before .before .before .before .before .loop .inv .1, store-next vertexRecord 3 (λ p. refl) (λ j. pointAt (a .s .now) (a .at + 24 * j)) (a .n) 0 (c .before .before .before .before .before .before .loop .k) (c .before .before .before .before .before .before .loop .points) _ _ (c .before .before .before .before .before .loop-test .taken) (rw (zero-add (c .before .before .before .before .before .before .loop .k), ← c .before .before .before .before .point-at .ensures) (c .before .before .put-floats .ensures)) (c .before .before .before .before .before .before .loop .inv .2))
 
 returns : tie.Need-returns Inv-loop μ-loop
 returns c =
@@ -39,5 +39,5 @@ returns c =
 pub put-points-spec : {M : Type 1} → statement M
 put-points-spec =
     tie.close
-    (tie.spec Inv-loop μ-loop loop-holds (λ c. search needs) (λ c. omega arith) (λ c. omega arith) (λ c κs. search needs) (λ c κs. search needs)
-    (λ c. omega arith) (λ c. omega arith) loop-again (λ c. search needs) returns)
+    (tie.spec Inv-loop μ-loop loop-holds (λ c. search needs) (λ c. omega arith) (λ c. omega arith) (λ c κs. tt) (λ c κs. tt)
+    (λ c. omega arith) (λ c. omega arith) loop-again (λ c. c .before .loop .inv .1) returns)

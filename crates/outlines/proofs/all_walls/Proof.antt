@@ -1,29 +1,38 @@
 -- `outlines::all_walls` meets its contract. Assumes nothing.
+use mathlib.Core.Path.{_∙_}
 use Prim.Native.Nat.{_+_, _-_}
 use native.Mathlib.Omega.{arith}
-use borrow.Author.Needs.{needs}
-use Rattle.face.proofs.Draws.{then}
-use Rattle.walls.proofs.Drawings.{room-less}
+use Rattle.face.proofs.Draws.{then, room-less}
 use Rattle.walls.proofs.WallLaws.{start-room, outer-room}
-use Rattle.walls.specs.Outlines.{cornersOf, holeCorners}
+use Rattle.lid_plane.specs.Outlines.{cornersOf, holeCorners}
+use Rattle.outlines.proofs.OutlineLaws.{few-edges, outer-drew}
 use Rattle.outlines.proofs.all_walls.Statement.{statement}
 use Rattle.outlines.proofs.all_walls.Tie as tie
 
-outer-walls-requires : tie.Need-outer-walls-requires
-outer-walls-requires c κs =
-    let a = c .before .before .before .before .before .before .before .args in
-    (omega (arith, c .before .before .before .before .before .before .before .pre .0 .near), room-less (start-room (a .before) (a .outer) (c .before .before .before .before .before .before .before .pre .1) (omega (arith, c .before .before .before .before .before .before .before .pre .0 .corners))) (omega arith) (omega arith))
+walls-requires : tie.Need-walls-requires
+walls-requires c κs =
+    let z = c .before .before .before .before .before .before .before .before .before in
+    let a = z .args in
+    let few = few-edges (a .closed) (a .outer) _ (c .before .before .before .edges .ensures) in
+    (omega (arith, z .pre .0 .near), few, room-less (start-room (a .before) (a .outer) (z .pre .1) (omega (arith, z .pre .0 .corners))) (omega (arith, few)) (omega (arith, few)))
 
 hole-walls-requires : tie.Need-hole-walls-requires
 hole-walls-requires c κs =
-    let a = c .before .before .before .before .before .before .before .before .before .before .before .before .before .before .before .before .before .args in
-    ((omega arith, omega (arith, c .before .before .before .before .before .before .before .before .before .before .before .before .before .before .before .before .before .pre .0 .near)), outer-room (a .s .now) (a .outer) (cornersOf (a .i) (a .holes)) (a .closed) (a .lid) (a .outer + holeCorners (a .s .now) (a .i) (a .holes)) (holeCorners (a .s .now) (a .i) (a .holes)) (start-room (a .before) _ (c .before .before .before .before .before .before .before .before .before .before .before .before .before .before .before .before .before .pre .1) (c .before .before .before .before .before .before .before .before .before .before .before .before .before .before .before .before .before .pre .0 .corners)) (c .before .before .before .before .before .before .before .before .before .outer-walls .ensures) (omega arith))
+    let z = c .before .before .before .before .before .before .before .before .before .before .before .before .before .before .before .before .before .before .before in
+    let a = z .args in
+    let s = a .s .now in
+    let at = cornersOf (a .i) (a .holes) in
+    let inner = holeCorners s (a .i) (a .holes) in
+    let drew = outer-drew (a .closed) s (a .outer) at (a .lid) (c .before .before .before .before .before .before .before .before .before .before .before .before .before .before .square-to .ensures) (c .before .before .before .before .before .before .before .before .before .before .before .before .before .edges .ensures) (c .before .before .before .before .before .before .before .before .before .walls .ensures) in
+    ((omega arith, omega (arith, z .pre .0 .near)), outer-room s (a .outer) at (a .closed) (a .lid) (a .outer + inner) inner (start-room (a .before) _ (z .pre .1) (z .pre .0 .corners)) drew (omega arith))
 
 returns : tie.Need-returns
-returns c = then (c .before .before .before .before .before .before .before .before .before .before .before .before .before .before .before .before .before .before .before .before .before .before .before .before .args .limit) (c .before .before .before .before .before .before .before .before .before .before .before .before .before .before .before .before .outer-walls .ensures) (c .before .before .before .before .before .before .hole-walls .ensures)
+returns c =
+    let a = c .before .before .before .before .before .before .before .before .before .before .before .before .before .before .before .before .before .before .before .before .before .before .before .before .before .before .args in
+    then (a .limit) (outer-drew (a .closed) (a .s .now) (a .outer) (cornersOf (a .i) (a .holes)) (a .lid) (c .before .before .before .before .before .before .before .before .before .before .before .before .before .before .before .before .before .before .before .before .before .square-to .ensures) (c .before .before .before .before .before .before .before .before .before .before .before .before .before .before .before .before .before .before .before .before .edges .ensures) (c .before .before .before .before .before .before .before .before .before .before .before .before .before .before .before .before .walls .ensures)) (c .before .before .before .before .before .before .hole-walls .ensures)
 
 pub all-walls-spec : {M : Type 1} → statement M
 all-walls-spec =
     tie.close
-    (tie.spec (λ c. search needs) (λ c. search needs) (λ c. search needs) outer-walls-requires (λ c. search needs) (λ c. search needs)
-    (λ c. search needs) hole-walls-requires (λ c. search needs) (λ c. search needs) (λ c. search needs) returns)
+    (tie.spec (λ c. omega (arith, c .before .before .before .before .pre .0 .near)) (λ c. omega (arith, c .before .before .before .before .pre .0 .near)) (λ c. omega (arith, c .before .before .before .before .pre .0 .near)) (λ c κs. omega (arith, c .before .before .before .before .pre .0 .near)) (λ c. omega (arith, c .before .before .before .before .before .pre .0 .near)) (λ c. omega (arith, c .before .before .before .before .before .pre .0 .near)) (λ c κs. tt) walls-requires
+    (λ c. omega (arith, c .before .before .before .before .before .before .before .before .before .before .before .before .before .before .before .before .pre .0 .near)) hole-walls-requires (λ c. c .before .before .before .before .before .vs2 .given ∙ c .before .before .before .before .before .before .before .before .before .before .before .before .before .before .before .vs .given) (λ c. c .before .before .before .ns2 .given ∙ c .before .before .before .before .before .before .before .before .before .before .before .before .before .ns .given) (λ c. c .before .is2 .given ∙ c .before .before .before .before .before .before .before .before .before .before .before .is .given) returns)

@@ -1,6 +1,5 @@
 -- `plane::about` meets its contract. Assumes nothing.
 use Prim.Native.Nat.{_-_}
-use borrow.Author.Needs.{needs}
 use Rattle.plane.proofs.about.Statement.{statement}
 use Rattle.plane.proofs.about.Tie as tie
 
@@ -9,4 +8,4 @@ returns c = rw (c .scale .ensures, c .before .signum .ensures, c .before .before
 
 pub about-spec : {M : Type 1} → statement M
 about-spec = tie.close
-    (tie.spec (λ c κs. search needs) (λ c κs. search needs) (λ c κs. search needs) returns)
+    (tie.spec (λ c κs. tt) (λ c κs. tt) (λ c κs. tt) returns)

@@ -1,6 +1,5 @@
 -- `plane::area_normal_step` meets its contract. Assumes nothing.
 use Prim.Native.Nat.{_-_}
-use borrow.Author.Needs.{needs}
 use Rattle.plane.proofs.area_normal_step.Statement.{statement}
 use Rattle.plane.proofs.area_normal_step.Tie as tie
 
@@ -10,4 +9,4 @@ returns c = rw (c .add .ensures, c .before .cross .ensures, c .before .before .b
 pub area-normal-step-spec : {M : Type 1} → statement M
 area-normal-step-spec =
     tie.close
-    (tie.spec (λ c κs. search needs) (λ c κs. search needs) (λ c κs. search needs) (λ c κs. search needs) returns)
+    (tie.spec (λ c κs. tt) (λ c κs. tt) (λ c κs. tt) (λ c κs. tt) returns)

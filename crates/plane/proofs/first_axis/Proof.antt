@@ -1,6 +1,5 @@
 -- `plane::first_axis` meets its contract. Assumes nothing.
 use Prim.Native.Nat.{_-_}
-use borrow.Author.Needs.{needs}
 use Rattle.lid.specs.Plane.{firstAxis}
 use Rattle.plane.proofs.first_axis.Statement.{statement}
 use Rattle.plane.proofs.first_axis.Tie as tie
@@ -12,4 +11,4 @@ returns c = rw (c .normalize-or-zero .ensures, c .before .sub .ensures, c .befor
 pub first-axis-spec : {M : Type 1} → statement M
 first-axis-spec =
     tie.close
-    (tie.spec (λ c κs. search needs) (λ c κs. search needs) (λ c κs. search needs) (λ c κs. search needs) (λ c κs. search needs) returns)
+    (tie.spec (λ c κs. tt) (λ c κs. tt) (λ c κs. tt) (λ c κs. tt) (λ c κs. tt) returns)

@@ -1,6 +1,5 @@
 -- `plane::flat_corner` meets its contract. Assumes nothing.
 use Prim.Native.Nat.{_-_}
-use borrow.Author.Needs.{needs}
 use Rattle.plane.proofs.flat_corner.Statement.{statement}
 use Rattle.plane.proofs.flat_corner.Tie as tie
 
@@ -9,4 +8,4 @@ returns c = rw (c .before .dot .ensures, c .dot2 .ensures, c .before .before .su
 
 pub flat-corner-spec : {M : Type 1} → statement M
 flat-corner-spec = tie.close
-    (tie.spec (λ c κs. search needs) (λ c κs. search needs) (λ c κs. search needs) returns)
+    (tie.spec (λ c κs. tt) (λ c κs. tt) (λ c κs. tt) returns)

@@ -1,6 +1,5 @@
 -- `plane::lid_side` meets its contract. Assumes nothing.
 use Prim.Native.Nat.{_-_}
-use borrow.Author.Needs.{needs}
 use Rattle.lid.specs.Plane.{lidSide}
 use Rattle.plane.proofs.lid_side.Statement.{statement}
 use Rattle.plane.proofs.lid_side.Tie as tie
@@ -20,4 +19,4 @@ returns-3 c = rw (← c .before .before .before .abs .ensures, c .before .before
 pub lid-side-spec : {M : Type 1} → statement M
 lid-side-spec =
     tie.close
-    (tie.spec (λ c κs. search needs) (λ c κs. search needs) (λ c κs. search needs) returns (λ c κs. search needs) returns-2 returns-3)
+    (tie.spec (λ c κs. tt) (λ c κs. tt) (λ c κs. tt) returns (λ c κs. tt) returns-2 returns-3)

@@ -6,12 +6,11 @@ use native.Mathlib.Omega.{arith}
 use borrow.Author.Needs.{needs}
 use Rattle.lists.specs.Loops.{list}
 use Rattle.face.specs.Drawing.{drawing, Drew, Room}
-use Rattle.face.proofs.Draws.{drew-room, drew-none, drew-vertices, drew-normals, drew-indices}
+use Rattle.face.proofs.Draws.{drew-room, drew-none, drew-vertices, drew-normals, drew-indices, room-less}
 use Rattle.object.specs.declared.Section.{Section}
 use Rattle.fields.specs.Fields.{sectionAt, sectionsAt}
 use Rattle.shapes.specs.Shapes.{pairs, ellipse, tubeFaces}
 use Rattle.round_sweeps.specs.Rings.{ringAbout}
-use Rattle.sweeps.proofs.SweepFaces.{room-less}
 use Rattle.round_sweeps.proofs.RingFaces.{tube-points, tube-triangles}
 use Rattle.round_sweeps.proofs.RingFaces.{tube-drawn}
 use Rattle.round_sweeps.proofs.between.Statement.{statement}

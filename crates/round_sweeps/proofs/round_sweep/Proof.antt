@@ -5,9 +5,8 @@ use native.Mathlib.Omega.{arith}
 use lib.ListN.{length}
 use Rattle.lists.specs.Loops.{list, sumOf}
 use Rattle.face.specs.Faces.{fan}
-use Rattle.face.proofs.Draws.{then, drew-room, drew-none, drew-vertices, drew-normals, drew-indices}
+use Rattle.face.proofs.Draws.{then, drew-room, drew-none, drew-vertices, drew-normals, drew-indices, room-less}
 use Rattle.shapes.specs.Shapes.{endFace, roundSweepFaces}
-use Rattle.sweeps.proofs.SweepFaces.{room-less}
 use Rattle.round_sweeps.proofs.RingFaces.{tube-caps-drawn, round-none, ring-size}
 use Rattle.round_sweeps.proofs.round_sweep.Statement.{statement}
 use Rattle.round_sweeps.proofs.round_sweep.Tie as tie

@@ -1,6 +1,5 @@
 -- `sections::is_thin` meets its contract. Assumes nothing.
 use Prim.Native.Nat.{_-_}
-use borrow.Author.Needs.{needs}
 use Rattle.shapes.specs.Shapes.{isThinSection}
 use Rattle.sections.proofs.is_thin.Statement.{statement}
 use Rattle.sections.proofs.is_thin.Tie as tie
@@ -10,4 +9,4 @@ unfolding isThinSection
 returns c = c .same-corner .ensures
 
 pub is-thin-spec : {M : Type 1} → statement M
-is-thin-spec = tie.close (tie.spec (λ c κs. search needs) returns)
+is-thin-spec = tie.close (tie.spec (λ c κs. tt) returns)

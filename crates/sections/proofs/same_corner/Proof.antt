@@ -2,7 +2,6 @@
 use mathlib.Core.Path.{ap₂}
 use mathlib.Core.Bool.{_&&_}
 use Prim.Native.Nat.{_-_}
-use borrow.Author.Needs.{needs}
 use Rattle.shapes.specs.Shapes.{sameCorner}
 use Rattle.sections.proofs.same_corner.Statement.{statement}
 use Rattle.sections.proofs.same_corner.Tie as tie
@@ -12,4 +11,4 @@ unfolding sameCorner
 returns c = ap₂ _&&_ (c .before .eq .ensures) (c .eq2 .ensures)
 
 pub same-corner-spec : {M : Type 1} → statement M
-same-corner-spec = tie.close (tie.spec (λ c κs. search needs) (λ c κs. search needs) returns)
+same-corner-spec = tie.close (tie.spec (λ c κs. tt) (λ c κs. tt) returns)

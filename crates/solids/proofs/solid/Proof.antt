@@ -20,6 +20,6 @@ returns-3 c = rw (c .enum-told .given .1) (drew-none (c .before .before .before 
 pub solid-spec : {M : Type 1} → statement M
 solid-spec =
     tie.close
-    (tie.spec (λ c κs. search needs) (λ c κs. search needs) (λ c. search needs) (λ c κs. search needs) (λ c. search needs) (λ c κs. search needs)
-    (λ c. search needs) (λ c. search needs) (λ c. search needs) (λ c. search needs) returns (λ c. search needs) (λ c. search needs)
-    (λ c. search needs) returns-2 returns-3)
+    (tie.spec (λ c κs. tt) (λ c κs. tt) (λ c. search needs) (λ c κs. search needs) (λ c. search needs) (λ c κs. search needs) (λ c. search needs)
+    (λ c. c .before .before .before .before .before .before .cuboid .kept .1 .1 .1 .1 .1 .1 .1 .1 .0) (λ c. c .before .before .before .before .before .before .cuboid .kept .1 .1 .1 .1 .1 .1 .1 .1 .1 .0) (λ c. c .before .before .before .before .before .before .cuboid .kept .1 .1 .1 .1 .1 .1 .1 .1 .1 .1 .0) returns
+    (λ c. c .before .before .before .before .before .before .cylinder .kept .1 .1 .1 .1 .1 .1 .1 .0) (λ c. c .before .before .before .before .before .before .cylinder .kept .1 .1 .1 .1 .1 .1 .1 .1 .0) (λ c. c .before .before .before .before .before .before .cylinder .kept .1 .1 .1 .1 .1 .1 .1 .1 .1 .0) returns-2 returns-3)

@@ -5,11 +5,11 @@ use native.Mathlib.Omega.{arith}
 use borrow.Author.Needs.{needs}
 use Rattle.lists.specs.Loops.{list}
 use Rattle.face.specs.Drawing.{drawing, Drew, Room}
-use Rattle.face.proofs.Draws.{drew-room, drew-none, drew-vertices, drew-normals, drew-indices}
+use Rattle.face.proofs.Draws.{drew-room, drew-none, drew-vertices, drew-normals, drew-indices, room-less}
 use Rattle.fields.specs.Fields.{sectionAt, sectionsAt}
 use Rattle.shapes.specs.Shapes.{pairFaces, pairs}
 use Rattle.sections.proofs.Neighbours.{pair-drawn}
-use Rattle.sweeps.proofs.SweepFaces.{pair-points, pair-triangles, room-less}
+use Rattle.sweeps.proofs.SweepFaces.{pair-points, pair-triangles}
 use Rattle.sweeps.proofs.between.Statement.{statement}
 use Rattle.sweeps.proofs.between.Tie as tie
 

@@ -4,9 +4,9 @@ use native.Mathlib.Omega.{arith}
 use borrow.Author.Needs.{needs}
 use Rattle.lists.specs.Loops.{list, sumOf}
 use Rattle.face.specs.Faces.{fan, quad}
-use Rattle.face.proofs.Draws.{then, drew-room, drew-none}
+use Rattle.face.proofs.Draws.{then, drew-room, drew-none, room-less}
 use Rattle.shapes.specs.Shapes.{cap, sweepFaces}
-use Rattle.sweeps.proofs.SweepFaces.{room-less, caps-drawn, sweep-none}
+use Rattle.sweeps.proofs.SweepFaces.{caps-drawn, sweep-none}
 use Rattle.sweeps.proofs.sweep.Statement.{statement}
 use Rattle.sweeps.proofs.sweep.Tie as tie
 

@@ -1,14 +1,15 @@
 -- `walls::hole_walls` meets its contract. Assumes nothing.
-use mathlib.Core.Path.{_≡_, refl}
+use mathlib.Core.Path.{_≡_, refl, _∙_}
 use Prim.Native.Nat.{_^_, _≤_, _<_, _+_, _-_, _*_}
 use native.Mathlib.Omega.{arith}
+use native.Mathlib.Nat.{le-refl}
 use lib.ListN.{length}
 use borrow.Author.Needs.{needs}
 use Rattle.face.specs.Drawing.{drawing, drawn, Room}
 use Rattle.lists.specs.Loops.{join}
 use Rattle.fields.specs.Fields.{u16At, countsAt, holesAt}
-use Rattle.walls.proofs.Drawings.{room-less}
-use Rattle.walls.proofs.WallLaws.{hole-room, countsLeft, counts-start, counts-next, holesLeft, holes-start, holes-next, holes-end}
+use Rattle.face.proofs.Draws.{room-less}
+use Rattle.walls.proofs.WallLaws.{hole-drew, hole-room, countsLeft, counts-start, counts-next, holesLeft, holes-start, holes-next, holes-end}
 use Rattle.shapes.specs.Shapes.{holeWalls}
 use Rattle.walls.proofs.hole_walls.Statement.{statement}
 use Rattle.walls.proofs.hole_walls.Tie as tie
@@ -22,28 +23,46 @@ abbrev μ-loop : tie.MeasureT-loop
 loop-holds : tie.Need-loop-holds Inv-loop μ-loop
 unfolding countsAt
 loop-holds c =
-    let a = c .before .before .before .before .args in
-    (omega arith, refl, refl, refl, omega (arith, counts-start (λ j. u16At (a .s .now) (a .counts + 2 * j)) (a .holes), c .before .before .before .before .pre .0 .1), room-less (c .before .before .before .before .pre .1) (omega (arith, counts-start (λ j. u16At (a .s .now) (a .counts + 2 * j)) (a .holes))) (omega (arith, counts-start (λ j. u16At (a .s .now) (a .counts + 2 * j)) (a .holes))), holes-start (a .limit) (a .before) (a .s .now) (a .lid) (λ j. u16At (a .s .now) (a .counts + 2 * j)) (a .holes) (a .at) _)
-
-hole-wall-requires : tie.Need-hole-wall-requires Inv-loop μ-loop
-hole-wall-requires c κs =
-    let a = c .before .before .before .before .before .before .before .before .before .before .args in
-    (omega (arith, counts-next (λ j. u16At (a .s .now) (a .counts + 2 * j)) (a .holes) (c .before .before .before .before .before .loop .k) (c .before .before .before .before .loop-test .taken), c .before .before .before .u16-at .ensures, c .before .before .before .before .before .loop .inv .4), room-less (c .before .before .before .before .before .loop .inv .5) (omega (arith, counts-next (λ j. u16At (a .s .now) (a .counts + 2 * j)) (a .holes) (c .before .before .before .before .before .loop .k) (c .before .before .before .before .loop-test .taken), c .before .before .before .u16-at .ensures, c .before .before .before .before .before .loop .inv .4)) (omega (arith, counts-next (λ j. u16At (a .s .now) (a .counts + 2 * j)) (a .holes) (c .before .before .before .before .before .loop .k) (c .before .before .before .before .loop-test .taken), c .before .before .before .u16-at .ensures, c .before .before .before .before .before .loop .inv .4)))
+    let z = c .before .before .before .before in
+    let a = z .args in
+    let start = counts-start (λ j. u16At (a .s .now) (a .counts + 2 * j)) (a .holes) in
+    (omega arith, refl, refl, refl, omega (arith, start, z .pre .0 .1), room-less (z .pre .1) (omega (arith, start)) (omega (arith, start)), holes-start (a .limit) (a .before) (a .s .now) (a .lid) (λ j. u16At (a .s .now) (a .counts + 2 * j)) (a .holes) (a .at) _)
 
 mul-place : tie.Need-mul-place Inv-loop μ-loop
 mul-place c =
-    let a = c .before .before .before .before .before .before .before .before .before .before .before .before .before .before .before .before .before .args in
-    omega (arith, counts-next (λ j. u16At (a .s .now) (a .counts + 2 * j)) (a .holes) (c .before .before .before .before .before .before .before .before .before .before .before .before .loop .k) (c .before .before .before .before .before .before .before .before .before .before .before .loop-test .taken), c .before .before .before .before .before .before .before .before .before .before .u16-at .ensures, c .before .before .before .before .before .before .before .before .before .before .before .before .loop .inv .4)
+    let a = c .before .before .before .before .before .before .before .args in
+    omega (arith, counts-next (λ j. u16At (a .s .now) (a .counts + 2 * j)) (a .holes) (c .before .before .loop .k) (c .before .loop-test .taken), c .u16-at .ensures, c .before .before .loop .inv .4)
 
 add-place : tie.Need-add-place Inv-loop μ-loop
 add-place c =
-    let a = c .before .before .before .before .before .before .before .before .before .before .before .before .before .before .before .before .before .args in
-    omega (arith, counts-next (λ j. u16At (a .s .now) (a .counts + 2 * j)) (a .holes) (c .before .before .before .before .before .before .before .before .before .before .before .before .loop .k) (c .before .before .before .before .before .before .before .before .before .before .before .loop-test .taken), c .before .before .before .before .before .before .before .before .before .before .u16-at .ensures, c .before .before .before .before .before .before .before .before .before .before .before .before .loop .inv .4)
+    let a = c .before .before .before .before .before .before .before .args in
+    omega (arith, counts-next (λ j. u16At (a .s .now) (a .counts + 2 * j)) (a .holes) (c .before .before .loop .k) (c .before .loop-test .taken), c .u16-at .ensures, c .before .before .loop .inv .4)
+
+about-requires : tie.Need-about-requires Inv-loop μ-loop
+about-requires c κs =
+    let a = c .before .before .before .before .before .before .before .args in
+    omega (arith, counts-next (λ j. u16At (a .s .now) (a .counts + 2 * j)) (a .holes) (c .before .before .loop .k) (c .before .loop-test .taken), c .u16-at .ensures, c .before .before .loop .inv .4)
+
+walls-requires : tie.Need-walls-requires Inv-loop μ-loop
+walls-requires c κs =
+    let a = c .before .before .before .before .before .before .before .before .before .before .before .before .args in
+    let l = c .before .before .before .before .before .before .before .loop in
+    let left = counts-next (λ j. u16At (a .s .now) (a .counts + 2 * j)) (a .holes) (l .k) (c .before .before .before .before .before .before .loop-test .taken) in
+    let n = c .before .before .before .before .before .u16-at .ensures in
+    (omega (arith, left, n, l .inv .4), le-refl _, room-less (l .inv .5) (omega (arith, left, n)) (omega (arith, left, n)))
 
 loop-again : tie.Need-loop-again Inv-loop μ-loop
 loop-again c =
-    let a = c .before .before .before .before .before .before .before .before .before .before .before .before .before .before .before .before .before .args in
-    (omega arith, search needs, search needs, search needs, omega (arith, counts-next (λ j. u16At (a .s .now) (a .counts + 2 * j)) (a .holes) (c .before .before .before .before .before .before .before .before .before .before .before .before .loop .k) (c .before .before .before .before .before .before .before .before .before .before .before .loop-test .taken), c .before .before .before .before .before .before .before .before .before .before .u16-at .ensures, c .before .before .before .before .before .before .before .before .before .before .before .before .loop .inv .4), hole-room (a .s .now) (c .before .before .before .before .before .before .before .before .before .before .u16-at .result) (c .before .before .before .before .before .before .before .before .before .before .before .before .loop .place) (a .lid) (countsLeft (λ j. u16At (a .s .now) (a .counts + 2 * j)) (a .holes) (c .before .before .before .before .before .before .before .before .before .before .before .before .loop .k)) (countsLeft (λ j. u16At (a .s .now) (a .counts + 2 * j)) (a .holes) (c .before .before .before .before .before .before .before .before .before .before .before .before .loop .k + 1)) (c .before .before .before .before .before .before .before .before .before .before .before .before .loop .inv .5) (c .before .before .before .before .before .before .hole-wall .ensures) (omega (arith, counts-next (λ j. u16At (a .s .now) (a .counts + 2 * j)) (a .holes) (c .before .before .before .before .before .before .before .before .before .before .before .before .loop .k) (c .before .before .before .before .before .before .before .before .before .before .before .loop-test .taken), c .before .before .before .before .before .before .before .before .before .before .u16-at .ensures, c .before .before .before .before .before .before .before .before .before .before .before .before .loop .inv .4)), holes-next (a .limit) (a .before) (a .s .now) (a .lid) (λ j. u16At (a .s .now) (a .counts + 2 * j)) (a .holes) (c .before .before .before .before .before .before .before .before .before .before .before .before .loop .k) (c .before .before .before .before .before .before .before .before .before .before .before .before .loop .place) (c .before .before .before .before .before .before .before .before .before .before .u16-at .result) (c .before .before .before .before .before .before .before .before .before .before .before .loop-test .taken) (c .before .before .before .before .before .before .before .before .before .before .u16-at .ensures) (c .before .before .before .before .before .before .hole-wall .ensures) (c .before .before .before .before .before .before .before .before .before .before .before .before .loop .inv .6))
+    let a = c .before .before .before .before .before .before .before .before .before .before .before .before .before .before .before .before .before .before .before .args in
+    let s = a .s .now in
+    let l = c .before .before .before .before .before .before .before .before .before .before .before .before .before .before .loop in
+    let i = l .inv in
+    let below = c .before .before .before .before .before .before .before .before .before .before .before .before .before .loop-test .taken in
+    let n = c .before .before .before .before .before .before .before .before .before .before .before .before .u16-at .ensures in
+    let count = c .before .before .before .before .before .before .before .before .before .before .before .before .u16-at .result in
+    let left = counts-next (λ j. u16At s (a .counts + 2 * j)) (a .holes) (l .k) below in
+    let drew = hole-drew s count (l .place) (a .lid) (c .before .before .before .before .before .before .before .before .before .before .before .about .ensures) (c .before .before .before .before .before .before .before .before .before .before .neg .ensures) (c .before .before .before .before .before .before .walls .ensures) in
+    (omega arith, c .before .before .before .before .before .vs .given ∙ i .1, c .before .before .before .ns .given ∙ i .2, c .before .is .given ∙ i .3, omega (arith, left, n, i .4), hole-room s count (l .place) (a .lid) (countsLeft (λ j. u16At s (a .counts + 2 * j)) (a .holes) (l .k)) (countsLeft (λ j. u16At s (a .counts + 2 * j)) (a .holes) (l .k + 1)) (i .5) drew (omega (arith, left, n)), holes-next (a .limit) (a .before) s (a .lid) (λ j. u16At s (a .counts + 2 * j)) (a .holes) (l .k) (l .place) count below n drew (i .6))
 
 returns : tie.Need-returns Inv-loop μ-loop
 returns c =
@@ -53,5 +72,5 @@ returns c =
 pub hole-walls-spec : {M : Type 1} → statement M
 hole-walls-spec =
     tie.close
-    (tie.spec Inv-loop μ-loop loop-holds (λ c. omega arith) (λ c. omega arith) (λ c κs. search needs) (λ c. search needs) hole-wall-requires mul-place
-    add-place (λ c. omega arith) (λ c. omega arith) loop-again (λ c. search needs) (λ c. search needs) (λ c. search needs) returns)
+    (tie.spec Inv-loop μ-loop loop-holds (λ c. omega arith) (λ c. omega arith) (λ c κs. tt) (λ c. search needs) mul-place add-place (λ c. omega arith) about-requires (λ c κs. tt) walls-requires
+    (λ c. omega arith) loop-again (λ c. c .before .loop .inv .1) (λ c. c .before .loop .inv .2) (λ c. c .before .loop .inv .3) returns)

@@ -3,7 +3,6 @@ use mathlib.Core.Path.{sym, ap₂, _∙_}
 use mathlib.Core.Bool.{_&&_}
 use Prim.Native.Nat.{_-_}
 use native.Mathlib.Omega.{arith}
-use borrow.Author.Needs.{needs}
 use Rattle.shapes.specs.Price.{pairPrice}
 use Rattle.price.proofs.sweeps.pair_price.Statement.{statement}
 use Rattle.price.proofs.sweeps.pair_price.Tie as tie
@@ -23,4 +22,4 @@ returns-3 c = let e = sym (ap₂ _&&_ (c .before .before .before .before .before
 pub pair-price-spec : {M : Type 1} → statement M
 pair-price-spec =
     tie.close
-    (tie.spec (λ c κs. search needs) (λ c κs. search needs) returns (λ c κs. search needs) (λ c κs. search needs) returns-2 returns-3)
+    (tie.spec (λ c κs. tt) (λ c κs. tt) returns (λ c κs. tt) (λ c κs. tt) returns-2 returns-3)

@@ -7,10 +7,9 @@ use borrow.Author.Needs.{needs}
 use Rattle.lists.specs.Loops.{list, sumOf}
 use Rattle.face.specs.Drawing.{drawing, Drew, Room}
 use Rattle.face.specs.Faces.{fan, quad}
-use Rattle.face.proofs.Draws.{drew-room, drew-none, drew-vertices, drew-normals, drew-indices}
+use Rattle.face.proofs.Draws.{drew-room, drew-none, drew-vertices, drew-normals, drew-indices, room-less}
 use Rattle.shapes.specs.Shapes.{tubeSide, tubeFaces}
 use Rattle.round_sweeps.specs.Rings.{ringAbout}
-use Rattle.sweeps.proofs.SweepFaces.{room-less}
 use Rattle.round_sweeps.proofs.RingFaces.{side-drawn}
 use Rattle.round_sweeps.proofs.ellipses.tube.Statement.{statement}
 use Rattle.round_sweeps.proofs.ellipses.tube.Tie as tie

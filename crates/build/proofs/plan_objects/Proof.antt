@@ -1,0 +1,41 @@
+-- `build::plan_objects` meets its contract. Assumes nothing.
+use mathlib.Core.Path.{_≡_, refl, sym, _∙_}
+use mathlib.Core.Bool.{false}
+use mathlib.Core.List.{[], _∷_}
+use mathlib.Core.Logic.{⊎-elim}
+use Prim.Native.Nat.{ℕ}
+use native.Mathlib.Omega.{arith}
+use types.Run.{OneOf}
+use denote.Enum.Declared.{tagOf}
+use borrow.Author.Needs.{needs}
+use Rattle.answers.proofs.BuiltAnswer.{the-type}
+use Rattle.answers.specs.declared.BuiltAnswer.{BuiltAnswer}
+use Rattle.answers.specs.declared.BuiltAnswer.the-variants.{Refused, ShortVertices, ShortIndices, ShortRecords, Complete}
+use Rattle.build.proofs.Built.{isComplete, plan-surely, plan-measured, plan-short}
+use Rattle.build.proofs.plan_objects.Statement.{statement}
+use Rattle.build.proofs.plan_objects.Tie as tie
+
+-- what is left after a test for Complete
+not-complete : (a : BuiltAnswer) → OneOf (0 ∷ 1 ∷ 2 ∷ 3 ∷ []) (tagOf the-type a) → isComplete a ≡ false
+not-complete (Refused f object) h = refl
+not-complete ShortVertices h = refl
+not-complete ShortIndices h = refl
+not-complete ShortRecords h = refl
+not-complete (Complete c) h = absurd (none h)
+  where
+    none : OneOf (0 ∷ 1 ∷ 2 ∷ 3 ∷ []) 4 → ⊥
+    none q = ⊎-elim (λ e. omega arith) (⊎-elim (λ e. omega arith) (⊎-elim (λ e. omega arith) (λ e. omega arith))) q
+
+returns : tie.Need-returns
+returns c = plan-surely _ _ _ (c .before .before .before .before .before .pre) _ (c .before .before .before .most-counts .ensures) _ (sym (c .enum-told .given .1) ∙ c .before .before .room .ensures)
+
+returns-2 : tie.Need-returns-2
+returns-2 c = plan-measured _ _ _ (c .before .before .before .before .before .before .before .before .pre) _ (c .before .before .before .count-objects .ensures) _ (sym (c .enum-told2 .given .1) ∙ c .before .before .room2 .ensures)
+
+returns-3 : tie.Need-returns-3
+returns-3 c = plan-short _ _ _ (c .before .before .before .before .before .before .before .pre) _ (c .before .before .count-objects .ensures) (c .before .room2 .result) (not-complete (c .before .room2 .result) (c .match2 .keys2)) (c .before .room2 .ensures)
+
+pub plan-objects-spec : {M : Type 1} → statement M
+plan-objects-spec =
+    tie.close
+    (tie.spec (λ c κs. c .before .pre) (λ c κs. tt) (λ c. search needs) returns (λ c κs. c .before .before .before .before .pre) (λ c κs. tt) (λ c. search needs) returns-2 returns-3)

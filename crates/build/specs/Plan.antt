@@ -1,0 +1,19 @@
+-- What Build decides before it touches a buffer, by the lengths of the buffers. Definitions only.
+use mathlib.Core.Path.{_≡_}
+use Prim.Native.Nat.{ℕ}
+use mathlib.Core.List.{List}
+use Rattle.float.specs.Number.{minArea}
+use Rattle.object.specs.Object.{Object}
+use Rattle.scene.specs.declared.scenes.Checked.the-variants.{Accepted}
+use Rattle.scene.specs.Scene.{scene, accepted}
+use Rattle.scene.specs.Answers.{checkedOf}
+use Rattle.scene_mesh.specs.Operations.{Counts, Buffers, output, countsOf, build}
+use Rattle.scene_mesh.specs.Demand3.{LongEnough}
+use Rattle.answers.specs.Answers.{builtWith}
+use Rattle.build.specs.declared.Plan.{Plan}
+use Rattle.build.specs.declared.Plan.the-variants.{Refuse, Write}
+
+-- a refusal is Build's answer to buffers of these lengths; n objects are written only where each buffer has room for what they come to
+abbrev pub PlanHolds : List ℕ → Counts → Plan → Type 0
+PlanHolds s has (Refuse a) = (b : Buffers) → countsOf b ≡ has → builtWith a b ≡ build s b
+PlanHolds s has (Write n) = (Accepted n ≡ checkedOf (scene s)) × ((os : List Object) → scene s ≡ accepted os → LongEnough has (countsOf (output minArea os)))

@@ -1,0 +1,31 @@
+// Build, and then Validate on the measured first part of the buffers.
+ghost use mathlib.Core.Path.{_≡_};
+ghost use mathlib.Core.List.{List};
+ghost use Rattle.float.specs.Number.{minArea};
+ghost use Rattle.object.specs.Object.{Object};
+ghost use Rattle.scene.specs.Scene.{scene, accepted};
+ghost use Rattle.scene_mesh.specs.Operations.{lent, countsOf, measure, build};
+ghost use Rattle.answers.specs.Answers.{builtAnswer, builtWith, buildAndValidate};
+ghost use Rattle.scene_mesh.specs.Demand3.{LongEnough, measured, Demand3Of};
+use answers::JudgedBuild;
+use build::build;
+
+pub fn build_and_validate(
+    s: &[u8],
+    vertices: &mut [f32],
+    normals: &mut [f32],
+    indices: &mut [u32],
+    spans: &mut [u32],
+    account: &mut [u32],
+    log: &mut [u32],
+) -> JudgedBuild
+    ensures same { λ r. ⌜ record { built = builtWith (r .answer) (lent (now (vertices .exit)) (now (normals .exit)) (now (indices .exit)) (now (spans .exit)) (now (account .exit)) (now (log .exit))); validation = r .validation } ≡ buildAndValidate (now (s .entry)) (lent (now (vertices .entry)) (now (normals .entry)) (now (indices .entry)) (now (spans .entry)) (now (account .entry)) (now (log .entry))) ⌝ }
+    ensures demand3 { λ r. ⌜ ((os : List Object) → scene (now (s .entry)) ≡ accepted os → LongEnough (countsOf (lent (now (vertices .entry)) (now (normals .entry)) (now (indices .entry)) (now (spans .entry)) (now (account .entry)) (now (log .entry)))) (measure (now (s .entry)) .counts) → Demand3Of minArea os (measured (builtAnswer (r .answer) .counts) (lent (now (vertices .exit)) (now (normals .exit)) (now (indices .exit)) (now (spans .exit)) (now (account .exit)) (now (log .exit))))) ⌝ }
+{
+    let answer = build(s, vertices, normals, indices, spans, account, log);
+    let m = answer.mesh_lengths();
+    let v = m.vertices;
+    let i = m.indices;
+    let validation = mesh::validate(&vertices[..v], &indices[..i]);
+    JudgedBuild { answer, validation }
+}

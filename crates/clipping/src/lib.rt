@@ -1,0 +1,157 @@
+// Ear clipping of one ring, as the loop of `triangulate`.
+ghost use mathlib.Core.Path.{_≡_};
+ghost use Prim.Native.Nat.{_+_, _-_, _<_, _≤_, _^_};
+ghost use lib.ListN.{length};
+ghost use Rattle.lists.specs.Loops.{first};
+ghost use Rattle.lid.specs.Rings.{flats, turn};
+ghost use Rattle.lid.specs.Clipping.{isStraight, clipStep, clip};
+ghost use Rattle.lid.specs.Steps.{Cuts, Clips};
+ghost use Rattle.ears.specs.Ears.{Known};
+ghost use Rattle.notes.specs.Notes.{Forgot};
+use ears::find_ear;
+use entries::put_entry;
+use entries::put_triangle;
+use flats::flat_at;
+use flats::turn;
+use lid::Clipped;
+use lid::MIN_AREA;
+use lid::RingPlace;
+use lid::Step;
+use lists::Found;
+use notes::forget;
+use notes::forget_all;
+use places::corners_at;
+use places::remove;
+
+// Whether the corner at a place lies on a straight run.
+fn is_straight(us: &[f32], vs: &[f32], ring: &[u32], at: RingPlace) -> bool
+    requires { ⌜ at .0 < length (now ring) ⌝ }
+    ensures { λ r. ⌜ r ≡ isStraight (flats (now (us .entry)) (now (vs .entry))) (now (ring .entry)) (at .0) ⌝ }
+{
+    let t = corners_at(ring, at);
+    let a = flat_at(us, vs, t.a);
+    let b = flat_at(us, vs, t.b);
+    let c = flat_at(us, vs, t.c);
+    signs::abs(turn(a, b, c)) < MIN_AREA
+}
+
+// The first place on a straight run.
+fn find_straight(us: &[f32], vs: &[f32], ring: &[u32]) -> Found
+    ensures { λ r. ⌜ r ≡ first (isStraight (flats (now (us .entry)) (now (vs .entry))) (now (ring .entry))) (length (now (ring .entry))) 0 ⌝ }
+{
+    let mut i = 0;
+    while i < ring.len() {
+        if is_straight(us, vs, ring, RingPlace(i)) {
+            return Found::At(i);
+        }
+        i += 1;
+    }
+    Found::Nowhere
+}
+
+// What is done next: an ear is cut off, marked 1, else a corner on a straight run is dropped, marked 2, else clipping ends.
+fn clip_step(us: &[f32], vs: &[f32], ring: &[u32], why: &mut [u32]) -> Step
+    requires { ⌜ length (now why) ≡ length (now ring) ⌝ }
+    requires { ⌜ Known (flats (now us) (now vs)) (now ring) (now why) ⌝ }
+    ensures { λ r. ⌜ r ≡ clipStep (flats (now (us .entry)) (now (vs .entry))) (now (ring .entry)) ⌝ }
+    ensures { λ r. ⌜ Known (flats (now (us .entry)) (now (vs .entry))) (now (ring .entry)) (now (why .exit)) ⌝ }
+{
+    if ring.len() <= 3 {
+        return Step::Stop;
+    }
+    if let Found::At(i) = find_ear(us, vs, ring, why) {
+        return Step::Cut(1, RingPlace(i));
+    }
+    match find_straight(us, vs, ring) {
+        Found::At(i) => Step::Cut(2, RingPlace(i)),
+        Found::Nowhere => Step::Stop,
+    }
+}
+
+// Cuts off the corner at a place: its entry goes to the log, an ear's triangle to the triangles, and the corner out of the ring. The
+// result is how many triangles there then are.
+fn cut(
+    ring: &mut [u32],
+    log: &mut [u32],
+    n: u32,
+    triangles: &mut [u32],
+    count: u32,
+    mark: u32,
+    at: RingPlace,
+) -> u32
+    requires { ⌜ at .0 < length (now ring) ⌝ }
+    requires { ⌜ count + 1 < 2 ^ 32 ⌝ }
+    ensures { λ r. ⌜ Cuts mark (now (ring .entry)) (at .0) (now (ring .exit)) (now (log .entry)) (now (log .exit)) n (now (triangles .entry)) (now (triangles .exit)) count r ⌝ }
+{
+    let t = corners_at(ring, at);
+    put_entry(log, n, mark, t.a.0, t.b.0, t.c.0);
+    remove(ring, at);
+    if mark == 1 {
+        put_triangle(triangles, count, t.a.0, t.b.0, t.c.0);
+        return count + 1;
+    }
+    count
+}
+
+// Cuts off the corner at a place, as `cut`, and forgets the notes that it changes.
+fn cut_noted(
+    ring: &mut [u32],
+    why: &mut [u32],
+    log: &mut [u32],
+    n: u32,
+    triangles: &mut [u32],
+    count: u32,
+    mark: u32,
+    at: RingPlace,
+) -> u32
+    requires { ⌜ at .0 < length (now ring) ⌝ }
+    requires { ⌜ length (now why) ≡ length (now ring) ⌝ }
+    requires { ⌜ count + 1 < 2 ^ 32 ⌝ }
+    ensures { λ r. ⌜ Cuts mark (now (ring .entry)) (at .0) (now (ring .exit)) (now (log .entry)) (now (log .exit)) n (now (triangles .entry)) (now (triangles .exit)) count r ⌝ }
+    ensures { λ _. ⌜ Forgot (now (ring .entry)) (at .0) (now (why .entry)) (now (why .exit)) ⌝ }
+{
+    forget(ring, why, at);
+    cut(ring, log, n, triangles, count, mark, at)
+}
+
+// Clips a ring, with room for a note per place. Its entries go to the log from entry n on, and the ears to the triangles from the first; the
+// corners left are the first ones of the ring.
+pub fn clip(
+    us: &[f32],
+    vs: &[f32],
+    ring: &mut [u32],
+    why: &mut [u32],
+    log: &mut [u32],
+    n: u32,
+    triangles: &mut [u32],
+) -> Clipped
+    requires { ⌜ n + length (now ring) < 2 ^ 32 ⌝ }
+    requires { ⌜ length (now ring) ≤ length (now why) ⌝ }
+    ensures { λ r. ⌜ Clips (clip (flats (now (us .entry)) (now (vs .entry))) (length (now (ring .entry))) (now (ring .entry))) (now (ring .exit)) (now (log .entry)) (now (log .exit)) n (now (triangles .entry)) (now (triangles .exit)) r ⌝ }
+{
+    forget_all(why);
+    let mut left = ring.len();
+    let mut entries = n;
+    let mut count = 0;
+    loop {
+        let Step::Cut(mark, at) = clip_step(us, vs, &ring[..left], &mut why[..left]) else {
+            return Clipped {
+                left,
+                entries,
+                triangles: count,
+            };
+        };
+        count = cut_noted(
+            &mut ring[..left],
+            &mut why[..left],
+            log,
+            entries,
+            triangles,
+            count,
+            mark,
+            at,
+        );
+        left -= 1;
+        entries += 1;
+    }
+}

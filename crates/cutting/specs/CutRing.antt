@@ -1,0 +1,14 @@
+-- What is written of a ring that is clipped. Definitions only.
+use Prim.Native.Nat.{ℕ}
+use mathlib.Core.List.{List, _++_, map}
+use Rattle.face.specs.Faces.{Triangle}
+use Rattle.lid.specs.declared.Flat.{Flat}
+use Rattle.lid.specs.Log.{Entry, entry, Logged}
+use Rattle.lid.specs.Lid.{earsOf, lastTriangle}
+
+-- the entries of a ring clipped to k, and its triangles
+abbrev pub ringEntries : Logged → List Entry
+ringEntries k = k .log ++ map (λ a. entry 3 a 0 0) (k .ring)
+
+abbrev pub ringTriangles : List Flat → Logged → List Triangle
+ringTriangles fs k = earsOf (k .log) ++ lastTriangle fs (k .ring)

@@ -1,0 +1,13 @@
+-- `flats::turn` meets its contract. Assumes nothing.
+use mathlib.Core.Path.{refl}
+use Prim.Native.Nat.{_-_}
+use Rattle.lid.specs.Rings.{turn}
+use Rattle.flats.proofs.turn.Statement.{statement}
+use Rattle.flats.proofs.turn.Tie as tie
+
+returns : tie.Need-returns
+unfolding turn
+returns c = refl
+
+pub turn-spec : {M : Type 1} → statement M
+turn-spec = tie.close (tie.spec returns)

@@ -1,0 +1,108 @@
+// Holes joined to the ring, one after the other.
+ghost use mathlib.Core.List.{map};
+ghost use Prim.Native.Nat.{_+_, _<_, _≤_, _^_};
+ghost use lib.ListN.{length, getD, take};
+ghost use Rattle.lists.specs.Each.{Each};
+ghost use Rattle.lists.specs.Loops.{sumOf};
+ghost use Rattle.lid.specs.Rings.{flats, turnHole};
+ghost use Rattle.lid.specs.Bridges.{joinAll};
+ghost use Rattle.lid.specs.Written.{cornerTotal};
+ghost use Rattle.holes.specs.Holes.{holeCorners, holeAt, Joinable};
+ghost use Rattle.joining.specs.Joined.{Joins, JoinsAll};
+use bridges::bridge;
+use entries::put_entry;
+use holes::write_hole;
+use lid::Bridged;
+use splicing::splice;
+
+// Joins a hole to the ring of m places. The result is how many places the ring then has.
+fn join(
+    us: &[f32],
+    vs: &[f32],
+    ring: &mut [u32],
+    m: usize,
+    hole: &[u32],
+    log: &mut [u32],
+    n: u32,
+    g: u32,
+) -> usize
+    requires { ⌜ (0 < length (now hole)) × (m + length (now hole) + 2 ≤ length (now ring)) × (length (now ring) < 2 ^ 32) ⌝ }
+    ensures { λ r. ⌜ Joins (flats (now (us .entry)) (now (vs .entry))) (take m (now (ring .entry))) (now (hole .entry)) g (now (ring .exit)) (now (log .entry)) (now (log .exit)) n r ⌝ }
+{
+    match bridge(us, vs, &ring[..m], hole) {
+        Bridged::Joined(t, j) => {
+            put_entry(log, n, 4, g, t.0 as u32, j.0 as u32);
+            let e = m + hole.len() + 2;
+            splice(&mut ring[..e], t, hole, j);
+            e
+        }
+        Bridged::Unjoined => {
+            put_entry(log, n, 5, g, 0, 0);
+            m
+        }
+    }
+}
+
+// Joins hole g, whose corners are first written to `hole`.
+fn join_hole(
+    us: &[f32],
+    vs: &[f32],
+    outer: u32,
+    counts: &[u32],
+    ring: &mut [u32],
+    m: usize,
+    hole: &mut [u32],
+    log: &mut [u32],
+    n: u32,
+    g: u32,
+) -> usize
+    requires { ⌜ cornerTotal outer (now counts) < 2 ^ 32 ⌝ }
+    requires { ⌜ Joinable (now counts) (length (now hole)) g ⌝ }
+    requires { ⌜ (m + getD (now counts) g 0 + 2 ≤ length (now ring)) × (length (now ring) < 2 ^ 32) ⌝ }
+    ensures { λ r. ⌜ Joins (flats (now (us .entry)) (now (vs .entry))) (take m (now (ring .entry))) (turnHole (flats (now (us .entry)) (now (vs .entry))) (holeCorners outer (now (counts .entry)) g)) g (now (ring .exit)) (now (log .entry)) (now (log .exit)) n r ⌝ }
+{
+    let k = g as usize;
+    write_hole(us, vs, outer, counts, hole, k);
+    let h = counts[k] as usize;
+    join(us, vs, ring, m, &hole[..h], log, n, g)
+}
+
+// Joins the holes of an order to the ring of m places, from entry n of the log on. The result is how many places the ring then has.
+pub fn join_holes(
+    us: &[f32],
+    vs: &[f32],
+    outer: u32,
+    counts: &[u32],
+    order: &[u32],
+    ring: &mut [u32],
+    m: usize,
+    hole: &mut [u32],
+    log: &mut [u32],
+    n: u32,
+) -> usize
+    requires { ⌜ cornerTotal outer (now counts) < 2 ^ 32 ⌝ }
+    requires { ⌜ Each (Joinable (now counts) (length (now hole))) (now order) ⌝ }
+    requires { ⌜ (m + sumOf (λ g. getD (now counts) g 0 + 2) (now order) ≤ length (now ring)) × (length (now ring) < 2 ^ 32) × (n + length (now order) < 2 ^ 32) ⌝ }
+    ensures { λ r. ⌜ JoinsAll (joinAll (flats (now (us .entry)) (now (vs .entry))) (map (holeAt (flats (now (us .entry)) (now (vs .entry))) outer (now (counts .entry))) (now (order .entry))) (take m (now (ring .entry)))) (now (ring .exit)) (now (log .entry)) (now (log .exit)) n r ⌝ }
+{
+    let mut places = m;
+    let mut entries = n;
+    let mut p = 0;
+    while p < order.len() {
+        places = join_hole(
+            us,
+            vs,
+            outer,
+            counts,
+            ring,
+            places,
+            hole,
+            log,
+            entries,
+            order[p],
+        );
+        entries += 1;
+        p += 1;
+    }
+    places
+}

@@ -1,0 +1,59 @@
+-- `lid_plane::lid_normal` meets its contract. Assumes nothing.
+use mathlib.Core.Path.{_≡_, sym, ap, ap₂, _∙_}
+use Prim.Native.Nat.{ℕ, _<_, _≤_, _+_, _-_, _*_}
+use native.Mathlib.Omega.{arith}
+use Rattle.lists.specs.Loops.{list, loop, fold}
+use Rattle.lists.proofs.Loops.{loop-next, loop-end, fold-start, fold-next, fold-end}
+use Rattle.lists.proofs.Places.{next-inside}
+use Rattle.vectors.specs.declared.Vector.{Vector}
+use Rattle.vectors.specs.Vectors.{zeroV}
+use Rattle.object.specs.declared.Corner.{Corner}
+use Rattle.fields.specs.Fields.{cornerAt, cornersAt}
+use Rattle.lid.specs.Plane.{areaNormalStep, areaNormal, riseStep, rise}
+use Rattle.lid.specs.Steps.{lidNormalFrom}
+use Rattle.plane.proofs.PlaneLaws.{normal-from}
+use Rattle.lid_plane.specs.Outlines.{pointsAt}
+use Rattle.lid_plane.proofs.CornerLaws.{area-start, tops-points, tops-at}
+use Rattle.lid_plane.proofs.lid_normal.Statement.{statement}
+use Rattle.lid_plane.proofs.lid_normal.Tie as tie
+
+abbrev Inv-loop : tie.InvT-loop
+Inv-loop s at n a₀ first area₀ rise₀ k₀ a area rises k = (k ≤ n) × (loop (areaNormalStep (pointsAt s n (at + 12))) (n - k) k area ≡ areaNormal (pointsAt s n (at + 12))) × (fold riseStep rises (list (λ j. cornerAt s (at + 24 * j)) (n - k) k) ≡ rise (cornersAt s n at)) × (k < n → a ≡ cornerAt s (at + 24 * k))
+
+abbrev μ-loop : tie.MeasureT-loop
+μ-loop s at n a₀ first area₀ rise₀ k₀ a area rises k = n - k
+
+loop-holds : tie.Need-loop-holds Inv-loop μ-loop
+unfolding rise cornersAt
+loop-holds c =
+    let a = c .before .before .before .args in
+    let s = a .s .now in
+    let e : a .at ≡ a .at + 24 * 0 = omega arith in
+    (omega arith, area-start s (a .n) (a .at + 12), fold-start riseStep (λ j. cornerAt s (a .at + 24 * j)) (a .n) zeroV, λ h. c .before .corner-at .ensures ∙ ap (cornerAt s) e)
+
+loop-again : tie.Need-loop-again Inv-loop μ-loop
+loop-again c =
+    let a = c .before .before .before .before .before .before .before .before .before .args in
+    let s = a .s .now in
+    let l = c .before .before .before .before .before .loop in
+    let h = c .before .before .before .before .loop-test .taken in
+    let reached = c .before .before .corner-at2 .ensures ∙ ap (cornerAt s) (c .before .before .before .next-place .ensures) in
+    let area = c .before .area-normal-step .ensures ∙ tops-at s (a .n) (a .at) (l .k) (l .area) h (c .before .before .before .before .before .before .before .corner-at .ensures) (l .inv .3 h) reached in
+    let rises = c .rise-step .ensures ∙ ap (riseStep (l .rise)) (l .inv .3 h) in
+    (omega arith, loop-next _ _ _ _ _ _ h area (l .inv .1), fold-next riseStep (λ j. cornerAt s (a .at + 24 * j)) (a .n) (l .k) (l .rise) _ _ h rises (l .inv .2), λ g. reached ∙ ap (λ (j : ℕ). cornerAt s (a .at + 24 * j)) (next-inside (a .n) (l .k) g))
+
+returns : tie.Need-returns Inv-loop μ-loop
+returns c =
+    let a = c .before .before .before .before .before .before .args in
+    let s = a .s .now in
+    let l = c .before .before .loop in
+    let done = c .before .loop-test .left in
+    let area = loop-end _ _ _ _ _ done (l .inv .1) ∙ ap areaNormal (sym (tops-points s (a .n) (a .at))) in
+    let rises = fold-end riseStep (λ j. cornerAt s (a .at + 24 * j)) (a .n) (l .k) (l .rise) _ done (l .inv .2) in
+    c .lid-normal .ensures ∙ ap₂ lidNormalFrom area rises ∙ normal-from (cornersAt s (a .n) (a .at))
+
+pub lid-normal-spec : {M : Type 1} → statement M
+lid-normal-spec =
+    tie.close
+    (tie.spec Inv-loop μ-loop (λ c κs. tt) loop-holds (λ c κs. (omega arith, omega arith)) (λ c κs. tt) (λ c κs. tt) (λ c κs. tt)
+    (λ c. omega arith) (λ c. omega arith) loop-again (λ c κs. tt) returns)

@@ -1,0 +1,167 @@
+-- Objects added one behind the other are all of them added; what they count to. Assumes nothing.
+use mathlib.Core.Path.{_≡_, refl, ap, _∙_, subst}
+use mathlib.Core.List.{List, [], _∷_, _++_, map}
+use Prim.Native.Nat.{ℕ, suc, _+_, _*_, _<_}
+use native.Mathlib.Nat.{add-zero, add-assoc}
+use native.Mathlib.Omega.{arith}
+use lib.ListN.{length, length-append, length-map}
+use lib.Seq.{sets, length-sets}
+use lib.Ieee.{Float}
+use Rattle.lists.specs.Loops.{join, sumOf}
+use Rattle.lists.proofs.Lists.{join-size}
+use Rattle.lists.proofs.Stores.{sets-append, records-behind}
+use Rattle.coords.specs.Buffers.{vertexRecord, vertexNumbers, normalRecord, normalNumbers}
+use Rattle.coords.proofs.Buffers.{vertices-size}
+use Rattle.object.specs.Object.{Object}
+use Rattle.lid.specs.Log.{entryRecord, logNumbers}
+use Rattle.shapes.specs.Shapes.{logOf}
+use Rattle.progress.specs.declared.Progress.{Progress}
+use Rattle.scene_mesh.specs.Mesh.{Mesh, keptBy, accountOf, pieceOf, spanOf, addPiece, meshFrom, meshOf, accountsOf, logsOf, spanRecord, spanNumbers, accountRecord, accountNumbers}
+use Rattle.scene_mesh.specs.Operations.{Buffers, lent, output, countsOf}
+use Rattle.progress.specs.Pass.{Pass, passOf, begun, withObject, withObjects, AddedAll}
+use Rattle.progress.specs.Wrote.{countedBy, stored, WroteAll}
+use Rattle.answers.specs.declared.Counted.{Counted}
+use Rattle.answers.specs.Answers.{countsFrom}
+use Rattle.scene_mesh.proofs.Demand3.Spans.{piece-size}
+use Rattle.scene_mesh.proofs.MeshSizes.{piece-normals, mesh-indices, mesh-normals}
+
+module _ (limit : Float) where
+  -- ---- one after the other
+
+  pub objects-none : (st : Pass) → withObjects limit [] st ≡ st
+  unfolding withObjects meshFrom accountsOf logsOf join sumOf spanNumbers accountNumbers vertexNumbers normalNumbers logNumbers
+  objects-none st = λ i. record {
+    objects = add-zero (st .objects) i;
+    vertices = add-zero (st .vertices) i;
+    kept = add-zero (st .kept) i;
+    spans = add-zero (st .spans) i;
+    entries = add-zero (st .entries) i;
+    buffers = st .buffers;
+  }
+
+  -- an object and those behind it, whose mesh is m
+  abbrev firstAnd : Object → List Object → Mesh → Pass → Pass
+  firstAnd o os m st =
+      let piece = pieceOf limit (st .vertices) o in
+      let spans = spanOf (o .id) (st .vertices) (3 * st .kept) piece in
+      let b = st .buffers in
+      record {
+        objects = st .objects + 1 + length os;
+        vertices = st .vertices + length (piece .vertices) + length (m .vertices);
+        kept = st .kept + keptBy limit (o .shape) + sumOf (λ (o : Object). keptBy limit (o .shape)) os;
+        spans = st .spans + length spans + length (m .spans);
+        entries = st .entries + length (logOf (o .shape)) + length (logsOf os);
+        buffers =
+            lent (sets (sets (b .vertices) (3 * st .vertices) (vertexNumbers (piece .vertices))) (3 * (st .vertices + length (piece .vertices))) (vertexNumbers (m .vertices)))
+            (sets (sets (b .normals) (3 * st .vertices) (normalNumbers (piece .normals))) (3 * (st .vertices + length (piece .vertices))) (normalNumbers (m .normals)))
+            (sets (sets (b .indices) (3 * st .kept) (piece .indices)) (3 * (st .kept + keptBy limit (o .shape))) (m .indices))
+            (sets (sets (b .spans) (5 * st .spans) (spanNumbers spans)) (5 * (st .spans + length spans)) (spanNumbers (m .spans)))
+            (sets (sets (b .account) (4 * st .objects) (accountRecord (accountOf limit o))) (4 * (st .objects + 1)) (accountNumbers (accountsOf limit os)))
+            (sets (sets (b .log) (4 * st .entries) (logNumbers (logOf (o .shape)))) (4 * (st .entries + length (logOf (o .shape)))) (logNumbers (logsOf os)));
+      }
+
+  first-is : (o : Object) (os : List Object) (st : Pass) (i : ℕ) → i ≡ 3 * st .kept + length (pieceOf limit (st .vertices) o .indices)
+      → firstAnd o os (meshFrom limit (st .vertices + length (pieceOf limit (st .vertices) o .vertices)) i os) st
+      ≡ firstAnd o os (meshFrom limit (st .vertices + length (pieceOf limit (st .vertices) o .vertices)) (3 * st .kept + length (pieceOf limit (st .vertices) o .indices)) os) st
+  first-is o os st i e = ap (λ (j : ℕ). firstAnd o os (meshFrom limit (st .vertices + length (pieceOf limit (st .vertices) o .vertices)) j os) st) e
+
+  joined : (o : Object) (os : List Object) (m : Mesh) (st : Pass)
+      → let piece = pieceOf limit (st .vertices) o in
+      let a = addPiece piece (spanOf (o .id) (st .vertices) (3 * st .kept) piece) m in
+      let b = st .buffers in
+      firstAnd o os m st
+      ≡ record {
+        objects = st .objects + suc (length os);
+        vertices = st .vertices + length (a .vertices);
+        kept = st .kept + (keptBy limit (o .shape) + sumOf (λ (o : Object). keptBy limit (o .shape)) os);
+        spans = st .spans + length (a .spans);
+        entries = st .entries + length (logOf (o .shape) ++ logsOf os);
+        buffers =
+            lent (sets (b .vertices) (3 * st .vertices) (vertexNumbers (a .vertices))) (sets (b .normals) (3 * st .vertices) (normalNumbers (a .normals)))
+            (sets (b .indices) (3 * st .kept) (a .indices)) (sets (b .spans) (5 * st .spans) (spanNumbers (a .spans)))
+            (sets (b .account) (4 * st .objects) (accountRecord (accountOf limit o) ++ accountNumbers (accountsOf limit os))) (sets (b .log) (4 * st .entries) (logNumbers (logOf (o .shape) ++ logsOf os)));
+      }
+  unfolding addPiece vertexNumbers normalNumbers spanNumbers logNumbers
+  joined o os m st =
+      let v = st .vertices in
+      let k = st .kept in
+      let piece = pieceOf limit v o in
+      let spans = spanOf (o .id) v (3 * k) piece in
+      let log = logOf (o .shape) in
+      let b = st .buffers in
+      let objects-are : st .objects + 1 + length os ≡ st .objects + suc (length os) = omega arith in
+      let vertices-are : v + length (piece .vertices) + length (m .vertices) ≡ v + length (piece .vertices ++ m .vertices) = let l = length-append (piece .vertices) (m .vertices) in omega arith in
+      let spans-are : st .spans + length spans + length (m .spans) ≡ st .spans + length (spans ++ m .spans) = let l = length-append spans (m .spans) in omega arith in
+      let entries-are : st .entries + length log + length (logsOf os) ≡ st .entries + length (log ++ logsOf os) = let l = length-append log (logsOf os) in omega arith in
+      let at-normals : 3 * (v + length (piece .vertices)) ≡ 3 * (v + length (piece .normals)) = let l = piece-normals limit v o in omega arith in
+      let at-indices : 3 * (k + keptBy limit (o .shape)) ≡ 3 * k + length (piece .indices) = let l = piece-size limit v o in omega arith in
+      let at-account : 4 * (st .objects + 1) ≡ 4 * st .objects + 4 = omega arith in
+      λ i. record {
+        objects = objects-are i;
+        vertices = vertices-are i;
+        kept = add-assoc k (keptBy limit (o .shape)) (sumOf (λ (o : Object). keptBy limit (o .shape)) os) i;
+        spans = spans-are i;
+        entries = entries-are i;
+        buffers = record {
+          vertices = records-behind vertexRecord 3 (λ a. refl) (b .vertices) v (piece .vertices) (m .vertices) i;
+          normals = (ap (λ (j : ℕ). sets (sets (b .normals) (3 * v) (join normalRecord (piece .normals))) j (join normalRecord (m .normals))) at-normals ∙ records-behind normalRecord 3 (λ a. refl) (b .normals) v (piece .normals) (m .normals)) i;
+          indices = (ap (λ (j : ℕ). sets (sets (b .indices) (3 * k) (piece .indices)) j (m .indices)) at-indices ∙ sets-append (b .indices) (3 * k) (piece .indices) (m .indices)) i;
+          spans = records-behind spanRecord 5 (λ a. refl) (b .spans) (st .spans) spans (m .spans) i;
+          account = (ap (λ (j : ℕ). sets (sets (b .account) (4 * st .objects) (accountRecord (accountOf limit o))) j (accountNumbers (accountsOf limit os))) at-account ∙ sets-append (b .account) (4 * st .objects) (accountRecord (accountOf limit o)) (accountNumbers (accountsOf limit os))) i;
+          log = records-behind entryRecord 4 (λ a. refl) (b .log) (st .entries) log (logsOf os) i;
+        };
+      }
+
+  pub objects-next : (o : Object) (os : List Object) (st : Pass) → withObjects limit os (withObject limit o st) ≡ withObjects limit (o ∷ os) st
+  unfolding withObjects withObject meshFrom accountsOf logsOf join sumOf accountNumbers
+  objects-next o os st =
+      let v = st .vertices in
+      let piece = pieceOf limit v o in
+      let e : 3 * (st .kept + keptBy limit (o .shape)) ≡ 3 * st .kept + length (piece .indices) = let l = piece-size limit v o in omega arith in
+      first-is o os st (3 * (st .kept + keptBy limit (o .shape))) e
+      ∙ joined o os (meshFrom limit (v + length (piece .vertices)) (3 * st .kept + length (piece .indices)) os) st
+
+  -- the buffers keep their lengths
+  pub object-lengths : (o : Object) (st : Pass) → countsOf (withObject limit o st .buffers) ≡ countsOf (st .buffers)
+  unfolding withObject countsOf
+  object-lengths o st = simp length-sets
+
+  -- ---- what is counted in the end
+
+  module _ (os : List Object) (p : Progress) (b b′ : Buffers) (e : passOf p b′ ≡ withObjects limit os (begun b)) where
+    counts-are : countsFrom (countedBy p) ≡ countsOf (output limit os)
+    unfolding withObjects output countsOf meshOf accountsOf normalNumbers spanNumbers accountNumbers logNumbers
+    counts-are =
+        let m = meshFrom limit 0 0 os in
+        let v : p .vertices ≡ 0 + length (m .vertices) = ap (λ (st : Pass). st .vertices) e in
+        let k : p .kept ≡ 0 + sumOf (λ (o : Object). keptBy limit (o .shape)) os = ap (λ (st : Pass). st .kept) e in
+        let s : p .spans ≡ 0 + length (m .spans) = ap (λ (st : Pass). st .spans) e in
+        let n : p .objects ≡ 0 + length os = ap (λ (st : Pass). st .objects) e in
+        let l : p .entries ≡ 0 + length (logsOf os) = ap (λ (st : Pass). st .entries) e in
+        let vertices-are : 3 * p .vertices ≡ length (vertexNumbers (m .vertices)) = omega (arith, vertices-size (m .vertices)) in
+        let normals-are : 3 * p .vertices ≡ length (join normalRecord (m .normals)) = omega (arith, join-size normalRecord 3 (λ a. refl) (m .normals), mesh-normals limit os 0 0) in
+        let indices-are : 3 * p .kept ≡ length (m .indices) = omega (arith, mesh-indices limit os 0 0) in
+        let spans-are : 5 * p .spans ≡ length (join spanRecord (m .spans)) = omega (arith, join-size spanRecord 5 (λ a. refl) (m .spans)) in
+        let account-is : 4 * p .objects ≡ length (join accountRecord (map (accountOf limit) os)) = omega (arith, join-size accountRecord 4 (λ a. refl) (map (accountOf limit) os), length-map os (accountOf limit)) in
+        let log-is : 4 * p .entries ≡ length (join entryRecord (logsOf os)) = omega (arith, join-size entryRecord 4 (λ a. refl) (logsOf os)) in
+        λ i. record { vertices = vertices-are i; normals = normals-are i; indices = indices-are i; spans = spans-are i; account = account-is i; log = log-is i }
+
+    pub wrote-all : WroteAll limit os (countedBy p) b b′
+    unfolding withObjects stored output meshOf
+    wrote-all = record { counts = counts-are; buffers = ap (λ (st : Pass). st .buffers) e }
+
+-- what all objects take in each buffer fits u32
+pub fits : {limit : Float} {os : List Object} {p : Progress} {b b′ : Buffers} → AddedAll limit os p b b′
+    → (3 * p .vertices < 4294967296) × (3 * p .kept < 4294967296) × (5 * p .spans < 4294967296) × (4 * p .objects < 4294967296) × (4 * p .entries < 4294967296)
+fits a =
+    let v = a .bounded .vertices in
+    let k = a .bounded .kept in
+    let e = a .bounded .entries in
+    let s = a .bounded .spans in
+    let i = a .place in
+    let o = a .objects in
+    (omega arith, omega arith, omega arith, omega arith, omega arith)
+
+-- what was written at the limit l is what is written at m
+pub counts-at : {l m : Float} {os : List Object} {c : Counted} {b b′ : Buffers} → l ≡ m → WroteAll l os c b b′ → countsFrom c ≡ countsOf (output m os)
+counts-at {l} {m} {os} {c} e w = subst (λ (x : Float). countsFrom c ≡ countsOf (output x os)) e (w .counts)

@@ -1,0 +1,154 @@
+-- The pass over the records of a scene: what it has written and counted, one object behind the other. Definitions only.
+use mathlib.Core.Path.{_≡_}
+use Prim.Native.Nat.{ℕ, _+_, _*_, _≤_, _<_, _^_}
+use mathlib.Core.Bool.{cond}
+use mathlib.Core.List.{List, [], _∷_}
+use lib.ListN.{length}
+use lib.Seq.{sets}
+use lib.Dec.{leb, eqb}
+use lib.Ieee.{Float}
+use Rattle.lists.specs.Loops.{sumOf}
+use Rattle.coords.specs.Buffers.{vertexNumbers, normalNumbers}
+use Rattle.object.specs.Object.{Shape, Object}
+use Rattle.scene.specs.Headers.{headerAt, objectOf, Limits}
+use Rattle.face.specs.declared.Tally.{Tally}
+use Rattle.face.specs.Faces.{writeFaces}
+use Rattle.face.specs.Drawing.{tally}
+use Rattle.lid.specs.Log.{logNumbers}
+use Rattle.shapes.specs.declared.Drawn.{Drawn}
+use Rattle.shapes.specs.Price.{offered}
+use Rattle.shapes.specs.Shapes.{facesOf, logOf}
+use Rattle.progress.specs.declared.Progress.{Progress}
+use Rattle.progress.specs.declared.Starts.{Starts}
+use Rattle.scene_mesh.specs.Mesh.{Span, keptBy, thinBy, accountOf, pieceOf, spanOf, meshFrom, accountsOf, logsOf, spanNumbers, accountRecord, accountNumbers}
+use Rattle.scene_mesh.specs.Operations.{Buffers, lent}
+
+-- where place n starts in a buffer of len numbers: its end where that is past it
+unfoldable pub startOf : ℕ → ℕ → ℕ
+startOf len n = cond (leb n len) n len
+
+-- the next object's places in buffers of these lengths, within each
+pub record StartsIn (v n i l : ℕ) (p : Progress) (a : Starts) : Type 0 where
+  pub vertices : (a .vertices ≡ startOf v (3 * p .vertices)) × (a .vertices ≤ v)
+  pub normals : (a .normals ≡ startOf n (3 * p .vertices)) × (a .normals ≤ n)
+  pub indices : (a .indices ≡ startOf i (3 * p .kept)) × (a .indices ≤ i)
+  pub log : (a .log ≡ startOf l (4 * p .entries)) × (a .log ≤ l)
+
+-- ---- one object, by what drawing it came to
+
+-- its span: none where nothing was kept
+unfoldable pub spanBy : ℕ → Progress → Tally → List Span
+spanBy id p t =
+    cond (eqb (t .kept) 0) [] (record { id = id; vertexStart = p .vertices; vertexEnd = p .vertices + t .vertices; indexStart = 3 * p .kept; indexEnd = 3 * (p .kept + t .kept) } ∷ [])
+
+abbrev pub accountBy : Drawn → List ℕ
+accountBy d = d .offered ∷ d .tally .kept ∷ d .tally .thin ∷ d .entries ∷ []
+
+abbrev pub spansMore : ℕ → ℕ
+spansMore kept = cond (eqb kept 0) 0 1
+
+-- behind a record of so many bytes
+abbrev pub advanced : Progress → ℕ → Drawn → Progress
+advanced p size d =
+    record { at = p .at + size; objects = p .objects + 1; vertices = p .vertices + d .tally .vertices; kept = p .kept + d .tally .kept; spans = p .spans + spansMore (d .tally .kept); entries = p .entries + d .entries }
+
+-- all of that fits the program's numbers
+pub record CanAdvance (p : Progress) (size : ℕ) (d : Drawn) : Type 0 where
+  pub at : p .at + size < 2 ^ 64
+  pub objects : p .objects + 1 < 2 ^ 32
+  pub vertices : p .vertices + d .tally .vertices < 2 ^ 32
+  pub kept : 3 * (p .kept + d .tally .kept) < 2 ^ 32
+  pub spans : p .spans + 1 < 2 ^ 32
+  pub entries : p .entries + d .entries < 2 ^ 32
+
+-- what drawing a shape comes to, v vertices standing before it
+unfoldable pub drawnOf : Float → ℕ → Shape → Drawn
+drawnOf limit v sh =
+    record { tally = tally (length (writeFaces limit v (facesOf sh) .vertices)) (keptBy limit sh) (thinBy limit sh); offered = offered sh; entries = length (logOf sh) }
+
+-- a shape drawn behind what the buffers hold
+pub record DrewBehind (limit : Float) (sh : Shape) (p : Progress) (d : Drawn) (vs ns : List Float) (is ls : List ℕ) (vs′ ns′ : List Float) (is′ ls′ : List ℕ) : Type 0 where
+  pub drawn : d ≡ drawnOf limit (p .vertices) sh
+  pub vertices : vs′ ≡ sets vs (3 * p .vertices) (vertexNumbers (writeFaces limit (p .vertices) (facesOf sh) .vertices))
+  pub normals : ns′ ≡ sets ns (3 * p .vertices) (normalNumbers (writeFaces limit (p .vertices) (facesOf sh) .normals))
+  pub indices : is′ ≡ sets is (3 * p .kept) (writeFaces limit (p .vertices) (facesOf sh) .indices)
+  pub log : ls′ ≡ sets ls (4 * p .entries) (logNumbers (logOf sh))
+
+-- ---- the pass
+
+-- what has been counted, and the buffers
+pub record Pass : Type 0 where
+  pub objects : ℕ
+  pub vertices : ℕ
+  pub kept : ℕ
+  pub spans : ℕ
+  pub entries : ℕ
+  pub buffers : Buffers
+
+abbrev pub passOf : Progress → Buffers → Pass
+passOf p b = record { objects = p .objects; vertices = p .vertices; kept = p .kept; spans = p .spans; entries = p .entries; buffers = b }
+
+abbrev pub begun : Buffers → Pass
+begun b = record { objects = 0; vertices = 0; kept = 0; spans = 0; entries = 0; buffers = b }
+
+-- one object more
+unfoldable pub withObject : Float → Object → Pass → Pass
+withObject limit o st =
+    let piece = pieceOf limit (st .vertices) o in
+    let spans = spanOf (o .id) (st .vertices) (3 * st .kept) piece in
+    let b = st .buffers in
+    record {
+      objects = st .objects + 1;
+      vertices = st .vertices + length (piece .vertices);
+      kept = st .kept + keptBy limit (o .shape);
+      spans = st .spans + length spans;
+      entries = st .entries + length (logOf (o .shape));
+      buffers =
+          lent (sets (b .vertices) (3 * st .vertices) (vertexNumbers (piece .vertices))) (sets (b .normals) (3 * st .vertices) (normalNumbers (piece .normals)))
+          (sets (b .indices) (3 * st .kept) (piece .indices)) (sets (b .spans) (5 * st .spans) (spanNumbers spans))
+          (sets (b .account) (4 * st .objects) (accountRecord (accountOf limit o))) (sets (b .log) (4 * st .entries) (logNumbers (logOf (o .shape))));
+    }
+
+-- all that are left
+unfoldable pub withObjects : Float → List Object → Pass → Pass
+withObjects limit os st =
+    let m = meshFrom limit (st .vertices) (3 * st .kept) os in
+    let b = st .buffers in
+    record {
+      objects = st .objects + length os;
+      vertices = st .vertices + length (m .vertices);
+      kept = st .kept + sumOf (λ (o : Object). keptBy limit (o .shape)) os;
+      spans = st .spans + length (m .spans);
+      entries = st .entries + length (logsOf os);
+      buffers =
+          lent (sets (b .vertices) (3 * st .vertices) (vertexNumbers (m .vertices))) (sets (b .normals) (3 * st .vertices) (normalNumbers (m .normals)))
+          (sets (b .indices) (3 * st .kept) (m .indices)) (sets (b .spans) (5 * st .spans) (spanNumbers (m .spans)))
+          (sets (b .account) (4 * st .objects) (accountNumbers (accountsOf limit os))) (sets (b .log) (4 * st .entries) (logNumbers (logsOf os)));
+    }
+
+-- no more has been counted than the bytes of the records before allow
+pub record Bounded (p : Progress) : Type 0 where
+  pub vertices : p .vertices ≤ 2 * p .at
+  pub kept : p .kept ≤ 3 * p .at
+  pub entries : p .entries ≤ 2 * p .at
+  pub spans : p .spans ≤ p .objects
+
+-- the next record is one of an accepted scene
+pub record CanAdd (s : List ℕ) (p : Progress) : Type 0 where
+  pub limits : Limits s (p .at + 5) (headerAt s (p .at) .body)
+  pub inside : p .at + headerAt s (p .at) .size ≤ length s
+  pub short : length s ≤ 16777216
+  pub objects : p .objects < 65536
+  pub bounded : Bounded p
+
+-- the object of the next record, added
+pub record AddedObject (limit : Float) (s : List ℕ) (p p′ : Progress) (b b′ : Buffers) : Type 0 where
+  pub next : p′ .at ≡ p .at + headerAt s (p .at) .size
+  pub pass : passOf p′ b′ ≡ withObject limit (objectOf s (p .at) (headerAt s (p .at))) (passOf p b)
+
+-- all objects, added
+pub record AddedAll (limit : Float) (os : List Object) (p : Progress) (b b′ : Buffers) : Type 0 where
+  pub pass : passOf p b′ ≡ withObjects limit os (begun b)
+  pub place : p .at ≤ 16777216
+  pub objects : p .objects ≤ 65536
+  pub bounded : Bounded p

@@ -1,0 +1,103 @@
+// How far the pass over the records has come, and what it stores for each object.
+
+pub mod stores;
+
+ghost use mathlib.Core.Path.{_≡_};
+ghost use Prim.Native.Nat.{_*_, _<_, _≤_};
+ghost use Rattle.progress.specs.Pass.{startOf, StartsIn, spansMore, advanced, CanAdvance};
+ghost use Rattle.progress.specs.Wrote.{countedBy};
+use answers::Counted;
+use shapes::Drawn;
+
+// Where the next record begins, and what the objects before it came to.
+pub struct Progress {
+    pub at: usize,
+    pub objects: u32,
+    pub vertices: u32,
+    pub kept: u32,
+    pub spans: u32,
+    pub entries: u32,
+}
+
+// The places in the lent buffers from which an object's tails are lent on.
+pub struct Starts {
+    pub vertices: usize,
+    pub normals: usize,
+    pub indices: usize,
+    pub log: usize,
+}
+
+fn clamp(len: usize, at: usize) -> usize
+    ensures { λ r. ⌜ (r ≡ startOf len at) × (r ≤ len) ⌝ }
+{
+    if at <= len {
+        return at;
+    }
+    len
+}
+
+// Where place n starts, counted in threes.
+fn thirds(len: usize, n: u32) -> usize
+    ensures { λ r. ⌜ (r ≡ startOf len (3 * n)) × (r ≤ len) ⌝ }
+{
+    clamp(len, 3 * (n as usize))
+}
+
+// Where place n starts, counted in fours.
+fn fourths(len: usize, n: u32) -> usize
+    ensures { λ r. ⌜ (r ≡ startOf len (4 * n)) × (r ≤ len) ⌝ }
+{
+    clamp(len, 4 * (n as usize))
+}
+
+// Where the next object starts in buffers of these lengths.
+pub fn starts_in(p: Progress, vertices: usize, normals: usize, indices: usize, log: usize) -> Starts
+    ensures { λ r. ⌜ StartsIn vertices normals indices log p r ⌝ }
+{
+    Starts {
+        vertices: thirds(vertices, p.vertices),
+        normals: thirds(normals, p.vertices),
+        indices: thirds(indices, p.kept),
+        log: fourths(log, p.entries),
+    }
+}
+
+fn spans_more(kept: u32) -> u32
+    ensures { λ r. ⌜ (r ≡ spansMore kept) × (r ≤ 1) ⌝ }
+{
+    if kept == 0 {
+        return 0;
+    }
+    1
+}
+
+// Behind a record of so many bytes.
+pub fn advance(p: Progress, size: usize, d: Drawn) -> Progress
+    requires { ⌜ CanAdvance p size d ⌝ }
+    ensures { λ r. ⌜ r ≡ advanced p size d ⌝ }
+{
+    let t = d.tally;
+    Progress {
+        at: p.at + size,
+        objects: p.objects + 1,
+        vertices: p.vertices + t.vertices,
+        kept: p.kept + t.kept,
+        spans: p.spans + spans_more(t.kept),
+        entries: p.entries + d.entries,
+    }
+}
+
+// The numbers that the objects take in each buffer.
+pub fn count_numbers(p: Progress) -> Counted
+    requires { ⌜ (3 * p .vertices < 4294967296) × (3 * p .kept < 4294967296) × (5 * p .spans < 4294967296) × (4 * p .objects < 4294967296) × (4 * p .entries < 4294967296) ⌝ }
+    ensures { λ r. ⌜ r ≡ countedBy p ⌝ }
+{
+    Counted {
+        vertices: 3 * p.vertices,
+        normals: 3 * p.vertices,
+        indices: 3 * p.kept,
+        spans: 5 * p.spans,
+        account: 4 * p.objects,
+        log: 4 * p.entries,
+    }
+}

@@ -1,0 +1,46 @@
+// Spans and accounts stored in the lent buffers. A store past the end is left out.
+ghost use mathlib.Core.Path.{_≡_};
+ghost use Prim.Native.Nat.{_+_, _*_, _<_, _^_};
+ghost use lib.Seq.{sets};
+ghost use Rattle.scene_mesh.specs.Mesh.{spanNumbers};
+ghost use Rattle.progress.specs.Pass.{spanBy, accountBy};
+use crate::Progress;
+use buffers::put_four;
+use buffers::put_number;
+use face::Tally;
+use shapes::Drawn;
+
+// The span of an object that came to t, if it has one.
+pub fn put_span(id: u32, p: Progress, t: Tally, spans: &mut [u32])
+    requires { ⌜ (p .vertices + t .vertices < 2 ^ 32) × (3 * (p .kept + t .kept) < 2 ^ 32) ⌝ }
+    ensures { λ _. ⌜ now (spans .exit) ≡ sets (now (spans .entry)) (5 * p .spans) (spanNumbers (spanBy id p t)) ⌝ }
+{
+    if t.kept == 0 {
+        return;
+    }
+    let at = 5 * (p.spans as usize);
+    put_four(
+        spans,
+        at,
+        id,
+        p.vertices,
+        p.vertices + t.vertices,
+        3 * p.kept,
+    );
+    put_number(spans, at + 4, 3 * (p.kept + t.kept));
+}
+
+// The account of object number n.
+pub fn put_account(n: u32, d: Drawn, account: &mut [u32])
+    ensures { λ _. ⌜ now (account .exit) ≡ sets (now (account .entry)) (4 * n) (accountBy d) ⌝ }
+{
+    let t = d.tally;
+    put_four(
+        account,
+        4 * (n as usize),
+        d.offered,
+        t.kept,
+        t.thin,
+        d.entries,
+    );
+}

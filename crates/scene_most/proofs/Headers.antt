@@ -1,0 +1,59 @@
+-- What the header of a record tells of its shape: the most that it comes to, and that this is little for the record's bytes. Assumes nothing.
+use mathlib.Core.Path.{_≡_, sym, ap, _∙_, subst}
+use mathlib.Core.Bool.{Bool, true, false}
+use mathlib.Core.List.{List}
+use Prim.Native.Nat.{ℕ, _+_, _*_, _≤_}
+use native.Mathlib.Omega.{arith}
+use lib.Dec.{eqb}
+use lib.Ieee.{lt}
+use Rattle.lists.proofs.Loops.{either}
+use Rattle.float.specs.Number.{zerof}
+use Rattle.object.specs.declared.Extent.the-variants.{Box, Cylinder, Unsized}
+use Rattle.fields.specs.Fields.{countsAt, holesAt}
+use Rattle.scene.specs.declared.headers.Body.{Body}
+use Rattle.scene.specs.declared.headers.Body.the-variants.{Solid, Outline, Sweep}
+use Rattle.scene.specs.Headers.{bodySize, shapeOf}
+use Rattle.scene.proofs.Parts.{corners-length, holes-size, holes-length, counts-length, sections-length}
+use Rattle.lid.proofs.Facts.{total}
+use Rattle.shapes.proofs.Sizes.{sum-lengths}
+use Rattle.most.specs.declared.Most.{Most}
+use Rattle.most.specs.Most.{ofShape, solidMost, outlineMost, sweepMost, mostOf, Few}
+
+module _ (s : List ℕ) (i : ℕ) where
+  pub most-outline : (closed : Bool) (outer holes : ℕ) → outlineMost closed outer (total (countsAt s holes (i + 4))) holes ≡ mostOf (shapeOf s i (Outline closed outer holes))
+  unfolding mostOf
+  most-outline closed outer holes =
+      let counts = countsAt s holes (i + 4) in
+      let at = i + 4 + 2 * holes in
+      let a = sym (corners-length s outer at) in
+      let b = sym (sum-lengths (holesAt s counts (at + 24 * outer)) ∙ ap total (holes-size s counts (at + 24 * outer))) in
+      let c = sym (holes-length s counts (at + 24 * outer) ∙ counts-length s holes (i + 4)) in
+      λ j. outlineMost closed (a j) (b j) (c j)
+
+  pub most-sweep : (round : Bool) (n : ℕ) → sweepMost round n ≡ mostOf (shapeOf s i (Sweep round n))
+  unfolding mostOf
+  most-sweep true n = ap (sweepMost true) (sym (sections-length s n (i + 2)))
+  most-sweep false n = ap (sweepMost false) (sym (sections-length s n (i + 2)))
+
+few-shape : (v t e bytes : ℕ) → v ≤ 2 * bytes → t ≤ 3 * bytes → e ≤ 2 * bytes → Few (ofShape v t e) bytes 1
+few-shape v t e bytes a b c = record { vertices = a; triangles = b; spans = either (λ (n : ℕ). n ≤ 1) (eqb t 0) {x = 0} {y = 1} (omega arith) (omega arith); entries = c }
+
+few-outline : (closed : Bool) (c k h : ℕ) → Few (outlineMost closed c k h) (5 + (4 + 2 * h + 24 * (c + k))) 1
+unfolding outlineMost
+few-outline true c k h = few-shape _ _ _ _ (omega arith) (omega arith) (omega arith)
+few-outline false c k h = few-shape _ _ _ _ (omega arith) (omega arith) (omega arith)
+
+few-sweep : (round : Bool) (n : ℕ) → Few (sweepMost round n) (5 + (2 + 48 * n)) 1
+unfolding sweepMost
+few-sweep true n = few-shape _ _ _ _ (omega arith) (omega arith) (omega arith)
+few-sweep false n = few-shape _ _ _ _ (omega arith) (omega arith) (omega arith)
+
+pub few-body : (s : List ℕ) (i : ℕ) (body : Body) → Few (mostOf (shapeOf s i body)) (5 + bodySize s i body) 1
+unfolding mostOf solidMost
+few-body s i (Solid (Box l w h)) = few-shape _ _ _ _ (omega arith) (omega arith) (omega arith)
+few-body s i (Solid (Cylinder r h)) =
+    few-shape _ _ _ _ (either (λ (n : ℕ). n ≤ 146) (lt zerof h) {x = 96} {y = 80} (omega arith) (omega arith)) (either (λ (n : ℕ). n ≤ 219) (lt zerof h) {x = 60} {y = 46} (omega arith) (omega arith)) (omega arith)
+few-body s i (Solid Unsized) = few-shape _ _ _ _ (omega arith) (omega arith) (omega arith)
+few-body s i (Outline closed outer holes) =
+    subst (λ (m : Most). Few m (5 + bodySize s i (Outline closed outer holes)) 1) (most-outline s i closed outer holes) (few-outline closed outer (total (countsAt s holes (i + 4))) holes)
+few-body s i (Sweep round n) = subst (λ (m : Most). Few m (5 + bodySize s i (Sweep round n)) 1) (most-sweep s i round n) (few-sweep round n)

@@ -1,0 +1,45 @@
+-- A lid whose outer ring is not too small: what is written of it, and the room that it needs. Definitions only.
+use Prim.Native.Nat.{ℕ, _+_, _≤_}
+use mathlib.Core.Path.{_≡_}
+use mathlib.Core.List.{List, _++_, map}
+use lib.ListN.{length, take}
+use Rattle.lists.specs.Each.{Each}
+use Rattle.lists.specs.Loops.{list, sumOf}
+use Rattle.face.specs.Faces.{Triangle}
+use Rattle.lid.specs.declared.Flat.{Flat}
+use Rattle.lid.specs.declared.Prepared.{Prepared}
+use Rattle.lid.specs.Log.{Entry, Logged}
+use Rattle.lid.specs.Rings.{turnOuter, ringsFrom, holesFrom, skippedFrom, inOrder}
+use Rattle.lid.specs.Bridges.{joinAll}
+use Rattle.lid.specs.Clipping.{clip}
+use Rattle.lid.specs.Lid.{Lid, lidFrom}
+use Rattle.lid.specs.Written.{logWith}
+use Rattle.holes.specs.Holes.{holeAt, Joinable}
+use Rattle.cutting.specs.CutRing.{ringEntries, ringTriangles}
+
+-- those of a lid whose holes are joined, to j
+abbrev pub openEntries : List Flat → Logged → List Entry
+openEntries fs j = j .log ++ ringEntries (clip fs (length (j .ring)) (j .ring))
+
+abbrev pub openTriangles : List Flat → Logged → List Triangle
+openTriangles fs j = ringTriangles fs (clip fs (length (j .ring)) (j .ring))
+
+-- the lid where its outer ring is not too small
+abbrev pub lidOpen : List Flat → ℕ → List ℕ → Lid
+lidOpen fs outer counts =
+    lidFrom fs (skippedFrom fs 0 (ringsFrom outer counts)) (joinAll fs (inOrder fs (holesFrom fs 0 (ringsFrom outer counts))) (turnOuter fs (list (λ i. i) outer 0)))
+
+-- an outline of at most 32 holes, and buffers with room for its lid
+pub record BuffersFit (outer : ℕ) (counts : List ℕ) (ring hole : ℕ) : Type 0 where
+  pub holes : length counts ≤ 32
+  pub places : outer + sumOf (λ n. n + 2) counts ≤ ring
+  pub few : ring ≤ 576
+  pub same : hole ≡ ring
+
+-- the skipped holes have their entries, and the others stand in joining order in the front of a buffer; each has room in one of that size
+pub record Prepares (fs : List Flat) (outer : ℕ) (counts : List ℕ) (room : ℕ) (order log log′ : List ℕ) (r : Prepared) : Type 0 where
+  pub written : log′ ≡ logWith log 0 (skippedFrom fs 0 (ringsFrom outer counts))
+  pub entries : r .entries ≡ length (skippedFrom fs 0 (ringsFrom outer counts))
+  pub ordered : map (holeAt fs outer counts) (take (r .holes) order) ≡ inOrder fs (holesFrom fs 0 (ringsFrom outer counts))
+  pub fewer : r .holes ≤ length order
+  pub joinable : Each (Joinable counts room) (take (r .holes) order)

@@ -1,0 +1,39 @@
+-- `vertices::put_points` meets its contract: in a buffer without any place every store is left out. Assumes nothing.
+use mathlib.Core.Path.{_≡_, refl, sym, subst}
+use mathlib.Core.List.{List, [], _∷_}
+use Prim.Native.Nat.{ℕ, suc, _*_}
+use native.Mathlib.Omega.{arith}
+use lib.Dec.{T, eqb, eqb→eq}
+use lib.Ieee.Fits.{and-l, and-r}
+use lib.ListN.{length, replicate}
+use lib.Seq.{sets}
+use Rattle.coords.specs.Buffers.{vertexNumbers, normalNumbers, verticesIn}
+use Rattle.vectors.specs.Vectors.{unitZ, normalizeOr}
+use Rattle.vertices.proofs.put_points.Statement.{statement}
+use Rattle.vertices.proofs.put_points.Tie as tie
+
+sets-none : {A : Type 0} (l : List A) (i : ℕ) (w : List A) → length l ≡ 0 → l ≡ sets l i w
+sets-none [] i [] h = refl
+sets-none [] i (x ∷ w) h = sets-none [] (suc i) w refl
+sets-none (y ∷ l) i w h = absurd (omega arith)
+
+returns : tie.Need-returns
+returns c =
+    let a = c .before .before .before .before .args in
+    let h = subst T (sym (c .if1 .taken)) tt in
+    let no-vs = eqb→eq (length (a .vs .now)) 0 (and-l (eqb (length (a .vs .now)) 0) (eqb (length (a .ns .now)) 0) h) in
+    let no-ns = eqb→eq (length (a .ns .now)) 0 (and-r (eqb (length (a .vs .now)) 0) (eqb (length (a .ns .now)) 0) h) in (
+      sets-none (a .vs .now) (3 * a .at) (vertexNumbers (verticesIn (a .points .now))) no-vs,
+      sets-none (a .ns .now) (3 * a .at) (normalNumbers (replicate (length (verticesIn (a .points .now))) (normalizeOr (a .sum) unitZ))) no-ns,
+    )
+
+returns-2 : tie.Need-returns-2
+returns-2 c =
+    let p = c .before .before .before .before in
+    let n = p .before .before .before in
+    (p .put-vertices .ensures .0, rw (← n .before .new .ensures, ← n .normalize-or .ensures) (p .put-vertices .ensures .1))
+
+pub put-points-spec : {M : Type 1} → statement M
+put-points-spec =
+    tie.close
+    (tie.spec returns (λ c κs. tt) (λ c κs. tt) (λ c κs. c .before .before .before .before .before .before .before .before .pre) (λ c. c .before .before .before .before .put-vertices .kept .1 .1 .1 .0) (λ c. c .before .before .before .before .put-vertices .kept .1 .1 .1 .1 .0) returns-2)

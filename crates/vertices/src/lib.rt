@@ -1,0 +1,36 @@
+// A face's points stored in the lent buffers, each with the face's normal.
+ghost use mathlib.Core.Path.{_≡_};
+ghost use Prim.Native.Nat.{_+_, _*_, _<_, _/_, _^_};
+ghost use lib.ListN.{length, replicate};
+ghost use lib.Seq.{sets};
+ghost use Rattle.coords.specs.Buffers.{vertexNumbers, normalNumbers, verticesIn};
+ghost use Rattle.vectors.specs.Vectors.{unitZ, normalizeOr};
+use vectors::Vector;
+
+// All points, each with the normal, from place at on.
+fn put_vertices(points: &[f32], normal: Vector, at: u32, vs: &mut [f32], ns: &mut [f32])
+    requires { ⌜ at + length (now points) / 3 < 2 ^ 32 ⌝ }
+    ensures { λ _. ⌜ (now (vs .exit) ≡ sets (now (vs .entry)) (3 * at) (vertexNumbers (verticesIn (now (points .entry))))) × (now (ns .exit) ≡ sets (now (ns .entry)) (3 * at) (normalNumbers (replicate (length (verticesIn (now (points .entry)))) normal))) ⌝ }
+{
+    let n = (points.len() / 3) as u32;
+    let mut k: u32 = 0;
+    while k < n {
+        let p = buffers::vertex_at(points, k as usize);
+        buffers::put_floats(vs, at + k, p.x, p.y, p.z);
+        buffers::put_floats(ns, at + k, normal.x, normal.y, normal.z);
+        k = k + 1;
+    }
+}
+
+// All points, each with the normal of the sum, from place at on. Without any room, as where a scene is
+// measured, no normal is worked out.
+pub fn put_points(points: &[f32], sum: Vector, at: u32, vs: &mut [f32], ns: &mut [f32])
+    requires { ⌜ at + length (now points) / 3 < 2 ^ 32 ⌝ }
+    ensures { λ _. ⌜ (now (vs .exit) ≡ sets (now (vs .entry)) (3 * at) (vertexNumbers (verticesIn (now (points .entry))))) × (now (ns .exit) ≡ sets (now (ns .entry)) (3 * at) (normalNumbers (replicate (length (verticesIn (now (points .entry)))) (normalizeOr sum unitZ)))) ⌝ }
+{
+    if (vs.len() == 0) & (ns.len() == 0) {
+        return;
+    }
+    let normal = sum.normalize_or(Vector::new(0.0, 0.0, 1.0));
+    put_vertices(points, normal, at, vs, ns);
+}
