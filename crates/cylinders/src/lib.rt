@@ -5,14 +5,16 @@ ghost use Prim.Native.Nat.{_+_, _<_};
 ghost use lib.ListN.{getD, length};
 ghost use Rattle.lists.specs.Loops.{list};
 ghost use Rattle.float.specs.Number.{zerof};
+ghost use Rattle.circle.specs.Circle.{sideAngle, sine, cosine};
 ghost use Rattle.object.specs.Object.{frame};
 ghost use Rattle.face.specs.Drawing.{drawing, Drew, Room};
 ghost use Rattle.shapes.specs.Shapes.{ringPoint, ringAt, cylinderSide, cylinder};
-ghost use Rattle.cylinders.specs.Ends.{cylinderEnds};
 use coords::Point;
 use ends::end;
 use face::Tally;
+use face::quad;
 use object::Orientation;
+use vectors::Vector;
 
 fn ring_point(origin: Point, turn: Orientation, radius: f32, z: f32, k: usize) -> Point
     requires { ⌜ k < 16 ⌝ }
@@ -37,31 +39,16 @@ fn rings_of(origin: Point, turn: Orientation, radius: f32, height: f32) -> [[Poi
     rings
 }
 
-// Side k, from ring point k to the next.
-fn cylinder_side(
-    rings: [[Point; 16]; 2],
-    turn: Orientation,
-    k: usize,
-    limit: f32,
-    before: u32,
-    t: Tally,
-    vs: &mut [f32],
-    ns: &mut [f32],
-    is: &mut [u32],
-) -> Tally
-    requires { ⌜ (k < 16) × (length (getD rings 0 []) ≡ 16) × (length (getD rings 1 []) ≡ 16) × Room before t 4 2 ⌝ }
-    ensures { λ r. ⌜ Drew limit (cylinderSide turn (getD rings 0 []) (getD rings 1 []) k ∷ []) before (drawing t (now (vs .entry)) (now (ns .entry)) (now (is .entry))) (drawing r (now (vs .exit)) (now (ns .exit)) (now (is .exit))) ⌝ }
+// The way that side k faces.
+fn side_direction(turn: Orientation, k: usize) -> Vector
+    requires { ⌜ k < 16 ⌝ }
+    ensures { λ r. ⌜ r ≡ frame turn (cosine (sideAngle k)) (sine (sideAngle k)) zerof ⌝ }
 {
-    let j = (k + 1) % 16;
-    let a = rings[0][k];
-    let b = rings[0][j];
-    let c = rings[1][j];
-    let d = rings[1][k];
     let angle = circle::side_sin_cos(k);
-    let out = turn.frame(angle.cos, angle.sin, 0.0);
-    face::quad(a, b, c, d, out, limit, before, t, vs, ns, is)
+    turn.frame(angle.cos, angle.sin, 0.0)
 }
 
+// The sides, each from a ring point to the next.
 fn cylinder_sides(
     rings: [[Point; 16]; 2],
     turn: Orientation,
@@ -78,38 +65,27 @@ fn cylinder_sides(
     let mut u = t;
     let mut k: usize = 0;
     while k < 16 {
-        u = cylinder_side(rings, turn, k, limit, before, u, vs, ns, is);
+        let j = (k + 1) % 16;
+        let out = side_direction(turn, k);
+        u = quad(
+            rings[0][k],
+            rings[0][j],
+            rings[1][j],
+            rings[1][k],
+            out,
+            limit,
+            before,
+            u,
+            vs,
+            ns,
+            is,
+        );
         k = k + 1;
     }
     u
 }
 
-// The top, and the bottom unless the cylinder has no height.
-fn cylinder_ends(
-    rings: [[Point; 16]; 2],
-    turn: Orientation,
-    height: f32,
-    limit: f32,
-    before: u32,
-    t: Tally,
-    vs: &mut [f32],
-    ns: &mut [f32],
-    is: &mut [u32],
-) -> Tally
-    requires { ⌜ (length (getD rings 1 []) ≡ 16) × Room before t 32 28 ⌝ }
-    ensures { λ r. ⌜ Drew limit (cylinderEnds turn (getD rings 0 []) (getD rings 1 []) height) before (drawing t (now (vs .entry)) (now (ns .entry)) (now (is .entry))) (drawing r (now (vs .exit)) (now (ns .exit)) (now (is .exit))) ⌝ }
-{
-    let up = turn.frame(0.0, 0.0, 1.0);
-    let top = rings[1];
-    let u = end(top, up, limit, before, t, vs, ns, is);
-    if height > 0.0 {
-        let bottom = rings[0];
-        return end(bottom, up.neg(), limit, before, u, vs, ns, is);
-    }
-    u
-}
-
-// An upright cylinder centred on the origin and rising from it.
+// An upright cylinder centred on the origin and rising from it; without a floor where it has no height.
 pub fn cylinder(
     origin: Point,
     turn: Orientation,
@@ -126,6 +102,11 @@ pub fn cylinder(
     ensures { λ r. ⌜ Drew limit (cylinder origin turn radius height) before (drawing t (now (vs .entry)) (now (ns .entry)) (now (is .entry))) (drawing r (now (vs .exit)) (now (ns .exit)) (now (is .exit))) ⌝ }
 {
     let rings = rings_of(origin, turn, radius, height);
+    let up = turn.frame(0.0, 0.0, 1.0);
     let u = cylinder_sides(rings, turn, limit, before, t, vs, ns, is);
-    cylinder_ends(rings, turn, height, limit, before, u, vs, ns, is)
+    let w = end(rings[1], up, limit, before, u, vs, ns, is);
+    if height > 0.0 {
+        return end(rings[0], up.neg(), limit, before, w, vs, ns, is);
+    }
+    w
 }

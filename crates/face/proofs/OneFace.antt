@@ -4,21 +4,24 @@ use Prim.Native.Nat.{ℕ, _+_, _*_, _/_}
 use native.Mathlib.Nat.{add-zero, zero-add}
 use native.Mathlib.Omega.{arith}
 use mathlib.Core.List.{List, [], _∷_, append-nil}
+use borrow.Author.Tests.{eqb-true, eqb-false}
+use lib.Dec.{eqb}
 use lib.ListN.{length, replicate}
 use lib.Seq.{sets}
 use lib.Ieee.{Float}
 use Rattle.lists.specs.Loops.{join, sumOf}
+use Rattle.lists.proofs.Loops.{either-by}
 use Rattle.lists.proofs.Lists.{length-list}
 use Rattle.lists.proofs.Buffers.{threes-back}
 use Rattle.vectors.specs.declared.Vector.{Vector}
 use Rattle.vectors.specs.Vectors.{unitZ, normalizeOr}
-use Rattle.coords.specs.Buffers.{vertexNumbers, normalNumbers, verticesIn}
-use Rattle.buffers.proofs.Vertices.{length-vertices}
+use Rattle.coords.specs.declared.Point.{Point}
+use Rattle.coords.specs.Buffers.{vertexNumbers, normalNumbers}
 use Rattle.face.specs.declared.Tally.{Tally}
 use Rattle.face.specs.Faces.{Triangle, triangle, Face, thinIn, keptOf, faceNormal, nothing, behind, numbered, writeKept, writeFace, writeFaces}
 use Rattle.offering.specs.Triangles.{triangleRecord, triangleAt, trianglesIn}
 use Rattle.offering.specs.Offered.{Offered, offered, noSum, offerAll}
-use Rattle.face.specs.Drawing.{tally, Drawing, drawing, counted, drawn, Drew, faceIn}
+use Rattle.face.specs.Drawing.{tally, Drawing, drawing, counted, drawn, stored, Drew}
 use Rattle.face.proofs.Counts.{face-account}
 use Rattle.face.proofs.Offers.{added, offered-all}
 use Rattle.face.proofs.Draws.{same-drawing, same-tally, put}
@@ -53,58 +56,60 @@ module _ (limit : Float) (first : ℕ) (f : Face) (h : ℕ) (t : Tally) (vs ns :
   put-some [] e = absurd (e refl)
   put-some (k ∷ ks) e = refl
 
-module _ (limit : Float) (points : List Float) (triangles : List ℕ) (out : Vector) where
-  abbrev all : ℕ → ℕ → List ℕ → Offered
-  all base n is = offerAll limit (verticesIn points) out base n is (trianglesIn triangles)
+module _ (limit : Float) (ps : List Point) (ts : List Triangle) (out : Vector) where
+  abbrev one : ℕ → Face
+  one part = record { points = ps; triangles = ts; out = out; part = part }
 
-  all-added : (base n : ℕ) (is : List ℕ) → all base n is ≡ added limit (verticesIn points) out base n (offered noSum is) (trianglesIn triangles)
+  all-added : (base n : ℕ) (is : List ℕ) → offerAll limit ps out base n is ts ≡ added limit ps out base n (offered noSum is) ts
   unfolding offerAll
-  all-added base n is = offered-all limit (verticesIn points) out base n (trianglesIn triangles) (offered noSum is)
+  all-added base n is = offered-all limit ps out base n ts (offered noSum is)
 
-  module _ (part base n : ℕ) (is : List ℕ) (o : Offered) (e : o ≡ all base n is) where
-    kept-is : o .sum .kept ≡ length (keptOf limit (faceIn part points triangles out))
+  module _ (part base n : ℕ) (is : List ℕ) (o : Offered) (e : o ≡ offerAll limit ps out base n is ts) where
+    kept-is : o .sum .kept ≡ length (keptOf limit (one part))
     unfolding added keptOf
     kept-is = ap (λ (x : Offered). x .sum .kept) (e ∙ all-added base n is) ∙ zero-add _
 
-    thin-is : o .sum .thin ≡ thinIn limit (faceIn part points triangles out)
+    thin-is : o .sum .thin ≡ thinIn limit (one part)
     unfolding added thinIn
     thin-is = ap (λ (x : Offered). x .sum .thin) (e ∙ all-added base n is) ∙ zero-add _
 
-    normal-is : normalizeOr (o .sum .normal) unitZ ≡ faceNormal limit (faceIn part points triangles out)
+    normal-is : normalizeOr (o .sum .normal) unitZ ≡ faceNormal limit (one part)
     unfolding added faceNormal
     normal-is = ap (λ (x : Offered). normalizeOr (x .sum .normal) unitZ) (e ∙ all-added base n is)
 
-    indices-are : o .indices ≡ sets is (3 * n) (numbered base (keptOf limit (faceIn part points triangles out)))
+    indices-are : o .indices ≡ sets is (3 * n) (numbered base (keptOf limit (one part)))
     unfolding added keptOf
     indices-are = ap (λ (x : Offered). x .indices) (e ∙ all-added base n is) ∙ rw add-zero
 
     -- each triangle is kept or thin
-    pub all-counted : o .sum .kept + o .sum .thin ≡ length triangles / 3
-    all-counted = omega (arith, kept-is, thin-is, face-account limit (faceIn part points triangles out), length-triangles triangles)
+    pub all-counted : o .sum .kept + o .sum .thin ≡ length ts
+    all-counted = omega (arith, kept-is, thin-is, face-account limit (one part))
 
-  module _ (before : ℕ) (t : Tally) (vs ns : List Float) (is : List ℕ) (o : Offered) (e : o ≡ all (before + t .vertices) (t .kept) is) (part : ℕ) where
-    abbrev f : Face
-    f = faceIn part points triangles out
-
+  module _ (before : ℕ) (t : Tally) (vs ns : List Float) (is : List ℕ) (o : Offered) (e : o ≡ offerAll limit ps out (before + t .vertices) (t .kept) is ts) (part : ℕ) where
     abbrev first : ℕ
     first = before + t .vertices
 
-    pub face-none : o .sum .kept ≡ 0
-        → Drew limit (f ∷ []) before (drawing t vs ns is) (drawing (tally (t .vertices) (t .kept) (t .thin + o .sum .thin)) vs ns (o .indices))
+    none : o .sum .kept ≡ 0
+        → Drew limit (one part ∷ []) before (drawing t vs ns is) (drawing (tally (t .vertices) (t .kept) (t .thin + o .sum .thin)) vs ns (o .indices))
     unfolding writeFace
-    face-none z = record {
+    none z = record {
       after =
           rw (indices-are part first (t .kept) is o e, thin-is part first (t .kept) is o e)
-          (put-none limit first f (thinIn limit f) t vs ns is (keptOf limit f) (sym (kept-is part first (t .kept) is o e) ∙ z) ∙ sym (drawn-one limit f before (drawing t vs ns is)));
+          (put-none limit first (one part) (thinIn limit (one part)) t vs ns is (keptOf limit (one part)) (sym (kept-is part first (t .kept) is o e) ∙ z) ∙ sym (drawn-one limit (one part) before (drawing t vs ns is)));
     }
 
-    pub face-some : (o .sum .kept ≡ 0 → ⊥)
-        → Drew limit (f ∷ []) before (drawing t vs ns is)
-        (drawing (tally (t .vertices + length points / 3) (t .kept + o .sum .kept) (t .thin + o .sum .thin)) (sets vs (3 * t .vertices) (vertexNumbers (verticesIn points)))
-        (sets ns (3 * t .vertices) (normalNumbers (replicate (length (verticesIn points)) (normalizeOr (o .sum .normal) unitZ)))) (o .indices))
+    some : (o .sum .kept ≡ 0 → ⊥)
+        → Drew limit (one part ∷ []) before (drawing t vs ns is)
+        (drawing (tally (t .vertices + length ps) (t .kept + o .sum .kept) (t .thin + o .sum .thin)) (sets vs (3 * t .vertices) (vertexNumbers ps))
+        (sets ns (3 * t .vertices) (normalNumbers (replicate (length ps) (normalizeOr (o .sum .normal) unitZ)))) (o .indices))
     unfolding writeFace
-    face-some z = record {
+    some z = record {
       after =
-          rw (indices-are part first (t .kept) is o e, thin-is part first (t .kept) is o e, kept-is part first (t .kept) is o e, normal-is part first (t .kept) is o e, ← length-vertices points)
-          (put-some limit first f (thinIn limit f) t vs ns is (keptOf limit f) (λ q. z (kept-is part first (t .kept) is o e ∙ q)) ∙ sym (drawn-one limit f before (drawing t vs ns is)));
+          rw (indices-are part first (t .kept) is o e, thin-is part first (t .kept) is o e, kept-is part first (t .kept) is o e, normal-is part first (t .kept) is o e)
+          (put-some limit first (one part) (thinIn limit (one part)) t vs ns is (keptOf limit (one part)) (λ q. z (kept-is part first (t .kept) is o e ∙ q)) ∙ sym (drawn-one limit (one part) before (drawing t vs ns is)));
     }
+
+    pub face-drawn : Drew limit (one part ∷ []) before (drawing t vs ns is) (stored ps o t vs ns)
+    unfolding stored
+    face-drawn =
+        either-by (Drew limit (one part ∷ []) before (drawing t vs ns is)) (eqb (o .sum .kept) 0) (λ h. none (eqb-true (o .sum .kept) 0 h)) (λ h. some (eqb-false (o .sum .kept) 0 h))

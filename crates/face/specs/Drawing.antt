@@ -1,16 +1,21 @@
 -- What drawing faces leaves in the lent buffers and counts: the one form of contract for all that draws. Definitions only.
 use mathlib.Core.Path.{_≡_}
 use Prim.Native.Nat.{ℕ, _+_, _*_, _<_, _^_}
+use mathlib.Core.Bool.{cond}
 use mathlib.Core.List.{List}
-use lib.ListN.{length}
+use lib.ListN.{length, replicate}
+use lib.Dec.{eqb}
 use lib.Seq.{sets}
 use lib.Ieee.{Float}
 use Rattle.lists.specs.Loops.{sumOf}
 use Rattle.vectors.specs.declared.Vector.{Vector}
+use Rattle.vectors.specs.Vectors.{unitZ, normalizeOr}
+use Rattle.coords.specs.declared.Point.{Point}
 use Rattle.coords.specs.Buffers.{vertexNumbers, normalNumbers, verticesIn}
 use Rattle.face.specs.declared.Tally.{Tally}
 use Rattle.face.specs.Faces.{Face, thinIn, keptOf, writeFaces}
 use Rattle.offering.specs.Triangles.{trianglesIn}
+use Rattle.offering.specs.Offered.{Offered}
 
 abbrev pub tally : ℕ → ℕ → ℕ → Tally
 tally vertices kept thin = record { vertices = vertices; kept = kept; thin = thin }
@@ -52,3 +57,10 @@ pub record Room (before : ℕ) (t : Tally) (v k : ℕ) : Type 0 where
 -- the face whose points and triangles are lent as numbers, three to one
 abbrev pub faceIn : ℕ → List Float → List ℕ → Vector → Face
 faceIn part points triangles out = record { points = verticesIn points; triangles = trianglesIn triangles; out = out; part = part }
+
+-- what a face's triangles came to, with its points ps stored behind what stands in the buffers: nothing more where none was kept
+unfoldable pub stored : List Point → Offered → Tally → List Float → List Float → Drawing
+stored ps o t vs ns =
+    cond (eqb (o .sum .kept) 0) (drawing (tally (t .vertices) (t .kept) (t .thin + o .sum .thin)) vs ns (o .indices))
+    (drawing (tally (t .vertices + length ps) (t .kept + o .sum .kept) (t .thin + o .sum .thin)) (sets vs (3 * t .vertices) (vertexNumbers ps))
+    (sets ns (3 * t .vertices) (normalNumbers (replicate (length ps) (normalizeOr (o .sum .normal) unitZ)))) (o .indices))

@@ -1,15 +1,18 @@
 // One flat face, `face` of object_mesh.rs, drawn into lent buffers behind what stands there.
 ghost use mathlib.Core.Path.{_≡_};
-ghost use mathlib.Core.List.{[], _∷_};
-ghost use Prim.Native.Nat.{ℕ, _/_};
+ghost use mathlib.Core.List.{List, [], _∷_};
+ghost use Prim.Native.Nat.{ℕ, _+_, _<_, _/_, _^_};
 ghost use lib.ListN.{length};
 ghost use Rattle.lists.specs.Each.{Each};
 ghost use Rattle.coords.specs.Buffers.{verticesIn};
 ghost use Rattle.offering.specs.Triangles.{TriangleLow, trianglesIn};
+ghost use Rattle.offering.specs.Offered.{offered};
 ghost use Rattle.face.specs.Faces.{quad};
-ghost use Rattle.face.specs.Drawing.{drawing, faceIn, Drew, Room};
+ghost use Rattle.face.specs.Drawing.{drawing, faceIn, stored, Drew, Room};
 use coords::Point;
+use offering::Sum;
 use offering::offer_all;
+use offering::offer_quad;
 use vectors::Vector;
 use vertices::put_points;
 
@@ -18,6 +21,27 @@ pub struct Tally {
     pub vertices: u32,
     pub kept: u32,
     pub thin: u32,
+}
+
+// A face whose triangles came to the sum, stored where the tally says: its points and what was counted,
+// or nothing where no triangle was kept.
+fn store_face(points: &[f32], s: Sum, t: Tally, vs: &mut [f32], ns: &mut [f32]) -> Tally
+    requires { ⌜ (t .vertices + length (now points) / 3 < 2 ^ 32) × (t .kept + s .kept < 2 ^ 32) × (t .thin + s .thin < 2 ^ 32) ⌝ }
+    ensures { λ r. ⌜ ((is : List ℕ) → drawing r (now (vs .exit)) (now (ns .exit)) is ≡ stored (verticesIn (now (points .entry))) (offered s is) t (now (vs .entry)) (now (ns .entry))) ⌝ }
+{
+    if s.kept == 0 {
+        return Tally {
+            vertices: t.vertices,
+            kept: t.kept,
+            thin: t.thin + s.thin,
+        };
+    }
+    put_points(points, s.normal, t.vertices, vs, ns);
+    Tally {
+        vertices: t.vertices + (points.len() / 3) as u32,
+        kept: t.kept + s.kept,
+        thin: t.thin + s.thin,
+    }
 }
 
 // A face of points and triangles lent as numbers, three to one, drawn where the tally says: its kept
@@ -39,24 +63,10 @@ pub fn face(
 {
     let base = before + t.vertices;
     let s = offer_all(points, triangles, out, limit, base, t.kept, is);
-    let thin = t.thin + s.thin;
-    if s.kept == 0 {
-        return Tally {
-            vertices: t.vertices,
-            kept: t.kept,
-            thin,
-        };
-    }
-    let sum = s.normal;
-    put_points(points, sum, t.vertices, vs, ns);
-    Tally {
-        vertices: t.vertices + (points.len() / 3) as u32,
-        kept: t.kept + s.kept,
-        thin,
-    }
+    store_face(points, s, t, vs, ns)
 }
 
-// A face of four points, as two triangles from the first.
+// A face of four points, as two triangles from the first, which are judged before the points are lent.
 pub fn quad(
     a: Point,
     b: Point,
@@ -73,7 +83,8 @@ pub fn quad(
     requires { ⌜ Room before t 4 2 ⌝ }
     ensures { λ r. ⌜ ((part : ℕ) → Drew limit (quad part a b c d out ∷ []) before (drawing t (now (vs .entry)) (now (ns .entry)) (now (is .entry))) (drawing r (now (vs .exit)) (now (ns .exit)) (now (is .exit)))) ⌝ }
 {
+    let base = before + t.vertices;
+    let s = offer_quad(a, b, c, d, out, limit, base, t.kept, is);
     let points = [a.x, a.y, a.z, b.x, b.y, b.z, c.x, c.y, c.z, d.x, d.y, d.z];
-    let fan = [0u32, 1, 2, 0, 2, 3];
-    face(&points, &fan, out, limit, before, t, vs, ns, is)
+    store_face(&points, s, t, vs, ns)
 }

@@ -1,6 +1,7 @@
 // The triangles of a face, one after the other: each is judged thin, or as it faces out or away, counted,
 // and written if it is kept.
 ghost use mathlib.Core.Path.{_≡_};
+ghost use mathlib.Core.List.{[], _∷_};
 ghost use Prim.Native.Nat.{_+_, _*_, _<_, _/_, _^_};
 ghost use lib.ListN.{length};
 ghost use lib.Seq.{sets};
@@ -68,6 +69,47 @@ fn offer(s: Sum, k: Side, a: u32, b: u32, c: u32, n: u32, is: &mut [u32]) -> Sum
             }
         }
     }
+}
+
+// The two triangles of a face of four points, from the first.
+pub fn offer_quad(
+    a: Point,
+    b: Point,
+    c: Point,
+    d: Point,
+    out: Vector,
+    limit: f32,
+    base: u32,
+    n: u32,
+    is: &mut [u32],
+) -> Sum
+    requires { ⌜ (base + 3 < 2 ^ 32) × (n + 1 < 2 ^ 32) ⌝ }
+    ensures { λ r. ⌜ offered r (now (is .exit)) ≡ offerAll limit (a ∷ b ∷ c ∷ d ∷ []) out base n (now (is .entry)) (triangle 0 1 2 ∷ triangle 0 2 3 ∷ []) ⌝ }
+{
+    let none = Sum {
+        normal: Vector::new(0.0, 0.0, 0.0),
+        kept: 0,
+        thin: 0,
+    };
+    let s = offer(
+        none,
+        judge(limit, out, a, b, c),
+        base,
+        base + 1,
+        base + 2,
+        n,
+        is,
+    );
+    let place = n + s.kept;
+    offer(
+        s,
+        judge(limit, out, a, c, d),
+        base,
+        base + 2,
+        base + 3,
+        place,
+        is,
+    )
 }
 
 // How the triangle of three of the points lies.

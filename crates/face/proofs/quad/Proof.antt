@@ -1,22 +1,33 @@
 -- `face::quad` meets its contract. Assumes nothing.
 use mathlib.Core.Path.{refl}
+use mathlib.Core.List.{[], _∷_}
+use Prim.Native.Nat.{_+_}
 use native.Mathlib.Omega.{arith}
 use Rattle.coords.specs.Buffers.{verticesIn}
-use Rattle.face.specs.Faces.{fan, quad}
-use Rattle.offering.specs.Triangles.{trianglesIn}
+use Rattle.face.specs.Faces.{triangle, fan, quad}
+use Rattle.face.proofs.OneFace.{all-counted, face-drawn}
 use Rattle.lists.specs.Loops.{list}
+use Rattle.offering.specs.Offered.{offered}
 use Rattle.face.proofs.quad.Statement.{statement}
 use Rattle.face.proofs.quad.Tie as tie
 
-face-requires : tie.Need-face-requires
-unfolding verticesIn trianglesIn list
-face-requires c κs = (c .before .before .before .before .before .before .before .before .pre, ((omega arith, omega arith, omega arith), ((omega arith, omega arith, omega arith), tt)))
+store-face-requires : tie.Need-store-face-requires
+store-face-requires c κs =
+    let o = c .before .before .before .before .before in
+    let a = o .before .before .before .before .before .before .args in
+    let p = o .before .before .before .before .before .before .pre in
+    let n = all-counted (a .limit) (a .a ∷ a .b ∷ a .c ∷ a .d ∷ []) (triangle 0 1 2 ∷ triangle 0 2 3 ∷ []) (a .out) 0 (a .before + a .t .vertices) (a .t .kept) (a .is .now) (offered (o .offer-quad .result) _) (o .offer-quad .ensures) in
+    (omega (arith, p .vertices), omega (arith, n, p .kept), omega (arith, n, p .thin))
 
 returns : tie.Need-returns
-unfolding verticesIn trianglesIn list fan quad
-returns c = λ part. c .before .before .before .before .before .before .face .ensures part
+unfolding verticesIn list fan quad
+returns c = λ part.
+    let o = c .before .before .before .before .before .before .before .before .before .before in
+    let a = o .before .before .before .before .before .before .args in
+    rw (c .before .before .before .before .store-face .ensures _) (face-drawn (a .limit) (a .a ∷ a .b ∷ a .c ∷ a .d ∷ []) (triangle 0 1 2 ∷ triangle 0 2 3 ∷ []) (a .out) (a .before) (a .t) (a .vs .now) (a .ns .now) (a .is .now) (offered (o .offer-quad .result) _) (o .offer-quad .ensures) part)
 
 pub quad-spec : {M : Type 1} → statement M
 quad-spec =
     tie.close
-    (tie.spec (λ c. refl) (λ c. refl) face-requires (λ c. c .before .before .before .before .before .before .face .kept .1 .1 .1 .1 .1 .1 .0) (λ c. c .before .before .before .before .before .before .face .kept .1 .1 .1 .1 .1 .1 .1 .0) (λ c. c .before .before .before .before .before .before .face .kept .1 .1 .1 .1 .1 .1 .1 .1 .0) returns)
+    (tie.spec (λ c. omega arith) (λ c κs. (omega arith, omega arith)) (λ c. refl) store-face-requires (λ c. c .before .before .before .before .store-face .kept .1 .1 .1 .0) (λ c. c .before .before .before .before .store-face .kept .1 .1 .1 .1 .0)
+    (λ c. c .before .before .before .before .before .before .before .before .before .before .offer-quad .kept .1 .1 .1 .1 .1 .1 .1 .1 .0) returns)
