@@ -3,6 +3,7 @@ use mathlib.Core.Path.{_≡_, refl, sym, ap, _∙_}
 use Prim.Native.Nat.{ℕ, _+_, _*_, _/_}
 use native.Mathlib.Nat.{add-zero, zero-add}
 use native.Mathlib.Omega.{arith}
+use mathlib.Core.Bool.{Bool, true, false}
 use mathlib.Core.List.{List, [], _∷_, append-nil}
 use borrow.Author.Tests.{eqb-true, eqb-false}
 use lib.Dec.{eqb}
@@ -10,7 +11,6 @@ use lib.ListN.{length, replicate}
 use lib.Seq.{sets}
 use lib.Ieee.{Float}
 use Rattle.lists.specs.Loops.{join, sumOf}
-use Rattle.lists.proofs.Loops.{either-by}
 use Rattle.lists.proofs.Lists.{length-list}
 use Rattle.lists.proofs.Buffers.{threes-back}
 use Rattle.vectors.specs.declared.Vector.{Vector}
@@ -21,7 +21,7 @@ use Rattle.face.specs.declared.Tally.{Tally}
 use Rattle.face.specs.Faces.{Triangle, triangle, Face, thinIn, keptOf, faceNormal, nothing, behind, numbered, writeKept, writeFace, writeFaces}
 use Rattle.offering.specs.Triangles.{triangleRecord, triangleAt, trianglesIn}
 use Rattle.offering.specs.Offered.{Offered, offered, noSum, offerAll}
-use Rattle.face.specs.Drawing.{tally, Drawing, drawing, counted, drawn, stored, Drew}
+use Rattle.face.specs.Drawing.{tally, Drawing, drawing, counted, drawn, countedWith, verticesWith, normalsWith, Drew}
 use Rattle.face.proofs.Counts.{face-account}
 use Rattle.face.proofs.Offers.{added, offered-all}
 use Rattle.face.proofs.Draws.{same-drawing, same-tally, put}
@@ -109,7 +109,14 @@ module _ (limit : Float) (ps : List Point) (ts : List Triangle) (out : Vector) w
           (put-some limit first (one part) (thinIn limit (one part)) t vs ns is (keptOf limit (one part)) (λ q. z (kept-is part first (t .kept) is o e ∙ q)) ∙ sym (drawn-one limit (one part) before (drawing t vs ns is)));
     }
 
-    pub face-drawn : Drew limit (one part ∷ []) before (drawing t vs ns is) (stored ps o t vs ns)
-    unfolding stored
-    face-drawn =
-        either-by (Drew limit (one part ∷ []) before (drawing t vs ns is)) (eqb (o .sum .kept) 0) (λ h. none (eqb-true (o .sum .kept) 0 h)) (λ h. some (eqb-false (o .sum .kept) 0 h))
+    pub face-drawn : Drew limit (one part ∷ []) before (drawing t vs ns is)
+        (drawing (countedWith (eqb (o .sum .kept) 0) (length ps) (o .sum) t) (verticesWith (eqb (o .sum .kept) 0) ps (t .vertices) vs)
+        (normalsWith (eqb (o .sum .kept) 0) ps (o .sum .normal) (t .vertices) ns) (o .indices))
+    unfolding countedWith verticesWith normalsWith
+    face-drawn = go (eqb (o .sum .kept) 0) refl
+      where
+        go : (b : Bool) → eqb (o .sum .kept) 0 ≡ b
+            → Drew limit (one part ∷ []) before (drawing t vs ns is)
+            (drawing (countedWith b (length ps) (o .sum) t) (verticesWith b ps (t .vertices) vs) (normalsWith b ps (o .sum .normal) (t .vertices) ns) (o .indices))
+        go true h = none (eqb-true (o .sum .kept) 0 h)
+        go false h = some (eqb-false (o .sum .kept) 0 h)

@@ -1,14 +1,14 @@
 // One flat face, `face` of object_mesh.rs, drawn into lent buffers behind what stands there.
 ghost use mathlib.Core.Path.{_≡_};
-ghost use mathlib.Core.List.{List, [], _∷_};
+ghost use mathlib.Core.List.{[], _∷_};
 ghost use Prim.Native.Nat.{ℕ, _+_, _<_, _/_, _^_};
+ghost use lib.Dec.{eqb};
 ghost use lib.ListN.{length};
 ghost use Rattle.lists.specs.Each.{Each};
 ghost use Rattle.coords.specs.Buffers.{verticesIn};
 ghost use Rattle.offering.specs.Triangles.{TriangleLow, trianglesIn};
-ghost use Rattle.offering.specs.Offered.{offered};
 ghost use Rattle.face.specs.Faces.{quad};
-ghost use Rattle.face.specs.Drawing.{drawing, faceIn, stored, Drew, Room};
+ghost use Rattle.face.specs.Drawing.{drawing, faceIn, countedWith, verticesWith, normalsWith, Drew, Room};
 use coords::Point;
 use offering::Sum;
 use offering::offer_all;
@@ -23,11 +23,10 @@ pub struct Tally {
     pub thin: u32,
 }
 
-// A face whose triangles came to the sum, stored where the tally says: its points and what was counted,
-// or nothing where no triangle was kept.
-fn store_face(points: &[f32], s: Sum, t: Tally, vs: &mut [f32], ns: &mut [f32]) -> Tally
-    requires { ⌜ (t .vertices + length (now points) / 3 < 2 ^ 32) × (t .kept + s .kept < 2 ^ 32) × (t .thin + s .thin < 2 ^ 32) ⌝ }
-    ensures { λ r. ⌜ ((is : List ℕ) → drawing r (now (vs .exit)) (now (ns .exit)) is ≡ stored (verticesIn (now (points .entry))) (offered s is) t (now (vs .entry)) (now (ns .entry))) ⌝ }
+// What was counted, with a face of n points whose triangles came to the sum.
+fn counted_with(t: Tally, s: Sum, n: u32) -> Tally
+    requires { ⌜ (t .vertices + n < 2 ^ 32) × (t .kept + s .kept < 2 ^ 32) × (t .thin + s .thin < 2 ^ 32) ⌝ }
+    ensures { λ r. ⌜ r ≡ countedWith (eqb (s .kept) 0) n s t ⌝ }
 {
     if s.kept == 0 {
         return Tally {
@@ -36,12 +35,22 @@ fn store_face(points: &[f32], s: Sum, t: Tally, vs: &mut [f32], ns: &mut [f32]) 
             thin: t.thin + s.thin,
         };
     }
-    put_points(points, s.normal, t.vertices, vs, ns);
     Tally {
-        vertices: t.vertices + (points.len() / 3) as u32,
+        vertices: t.vertices + n,
         kept: t.kept + s.kept,
         thin: t.thin + s.thin,
     }
+}
+
+// The points of a face whose triangles came to the sum, stored from place at on if one was kept.
+fn store_points(points: &[f32], s: Sum, at: u32, vs: &mut [f32], ns: &mut [f32])
+    requires { ⌜ at + length (now points) / 3 < 2 ^ 32 ⌝ }
+    ensures { λ _. ⌜ (now (vs .exit) ≡ verticesWith (eqb (s .kept) 0) (verticesIn (now (points .entry))) at (now (vs .entry))) × (now (ns .exit) ≡ normalsWith (eqb (s .kept) 0) (verticesIn (now (points .entry))) (s .normal) at (now (ns .entry))) ⌝ }
+{
+    if s.kept == 0 {
+        return;
+    }
+    put_points(points, s.normal, at, vs, ns);
 }
 
 // A face of points and triangles lent as numbers, three to one, drawn where the tally says: its kept
@@ -63,7 +72,8 @@ pub fn face(
 {
     let base = before + t.vertices;
     let s = offer_all(points, triangles, out, limit, base, t.kept, is);
-    store_face(points, s, t, vs, ns)
+    store_points(points, s, t.vertices, vs, ns);
+    counted_with(t, s, (points.len() / 3) as u32)
 }
 
 // A face of four points, as two triangles from the first, which are judged before the points are lent.
@@ -86,5 +96,6 @@ pub fn quad(
     let base = before + t.vertices;
     let s = offer_quad(a, b, c, d, out, limit, base, t.kept, is);
     let points = [a.x, a.y, a.z, b.x, b.y, b.z, c.x, c.y, c.z, d.x, d.y, d.z];
-    store_face(&points, s, t, vs, ns)
+    store_points(&points, s, t.vertices, vs, ns);
+    counted_with(t, s, 4)
 }

@@ -4,16 +4,18 @@ ghost use Prim.Native.Nat.{_^_, _<_};
 ghost use lib.Ieee.{binary32, ofBits};
 ghost use Rattle.float.specs.Rounding.{root, squareRoot, significand, exponent};
 
-// A number near the root of n: only its range is promised. Two steps of Heron's method on n / 2^48,
-// from a parabola that is within 1 part in 199 of the root between 1 and 4.
+// A number near the root of n: only its range is promised. A step of Heron's method on n / 2^48, from
+// a polynomial that is within 1 part in 15,000 of the root between 1 and 4.
 fn root_guess(n: u64) -> u64
     requires { ⌜ n < 2 ^ 50 ⌝ }
     ensures { λ r. ⌜ r < 2 ^ 26 ⌝ }
 {
     let t = ((n / 0x4_0000) as u32) as f64 * 0.000000000931322574615478515625;
-    let a = 0.5185546 + t * (0.5260097 - t * 0.0395401);
-    let b = (a + t / a) * 0.5;
-    let c = (b + t / b) * 8388608.0;
+    let q = t * t;
+    let a = (0.34354 + 0.870612 * t)
+        + (0.0772602 * t - 0.280016) * q
+        + (0.000795738 * t - 0.0121293) * (q * q);
+    let c = (a + t / a) * 8388608.0;
     // The sum's last digit is worth 1, so its digits' field is c rounded.
     let y = c + 4503599627370495.5;
     if y != y {

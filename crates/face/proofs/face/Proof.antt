@@ -1,8 +1,7 @@
 -- `face::face` meets its contract. Assumes nothing.
-use mathlib.Core.Path.{_≡_, _∙_}
-use Prim.Native.Nat.{_+_, _/_}
+use Prim.Native.Nat.{_+_}
 use native.Mathlib.Omega.{arith}
-use lib.ListN.{length}
+use Rattle.buffers.proofs.Vertices.{length-vertices}
 use Rattle.coords.specs.Buffers.{verticesIn}
 use Rattle.face.proofs.OneFace.{length-triangles, all-counted, face-drawn}
 use Rattle.offering.specs.Offered.{offered}
@@ -10,9 +9,9 @@ use Rattle.offering.specs.Triangles.{trianglesIn}
 use Rattle.face.proofs.face.Statement.{statement}
 use Rattle.face.proofs.face.Tie as tie
 
-store-face-requires : tie.Need-store-face-requires
-store-face-requires c κs =
-    let o = c .before .before .before .before in
+counted-with-requires : tie.Need-counted-with-requires
+counted-with-requires c κs =
+    let o = c .before .before .before .before .before .before .before .before .before in
     let a = o .before .before .before .before .before .before .before .before .args in
     let p = o .before .before .before .before .before .before .before .before .pre .0 in
     let n = all-counted (a .limit) (verticesIn (a .points .now)) (trianglesIn (a .triangles .now)) (a .out) 0 (a .before + a .t .vertices) (a .t .kept) (a .is .now) (offered (o .offer-all .result) _) (o .offer-all .ensures) in
@@ -21,12 +20,14 @@ store-face-requires c κs =
 
 returns : tie.Need-returns
 returns c = λ part.
-    let o = c .before .before .before .before .before .before .before .before .before in
+    let o = c .before .before .before .before .before .before .before .before .before .before in
     let a = o .before .before .before .before .before .before .before .before .args in
-    rw (c .before .before .before .before .store-face .ensures _) (face-drawn (a .limit) (verticesIn (a .points .now)) (trianglesIn (a .triangles .now)) (a .out) (a .before) (a .t) (a .vs .now) (a .ns .now) (a .is .now) (offered (o .offer-all .result) _) (o .offer-all .ensures) part)
+    let s = c .before .before .before .before .before .store-points .ensures in
+    rw (c .counted-with .ensures, s .0, s .1, ← length-vertices (a .points .now))
+    (face-drawn (a .limit) (verticesIn (a .points .now)) (trianglesIn (a .triangles .now)) (a .out) (a .before) (a .t) (a .vs .now) (a .ns .now) (a .is .now) (offered (o .offer-all .result) _) (o .offer-all .ensures) part)
 
 pub face-spec : {M : Type 1} → statement M
 face-spec =
     tie.close
-    (tie.spec (λ c. omega (arith, c .before .before .before .before .before .before .pre .0 .vertices)) (λ c κs. let p = c .before .before .before .before .before .before .before .pre in (omega (arith, p .0 .vertices), p .0 .kept, p .1)) store-face-requires
-    (λ c. c .before .before .before .before .store-face .kept .1 .1 .1 .0) (λ c. c .before .before .before .before .store-face .kept .1 .1 .1 .1 .0) (λ c. c .before .before .before .before .before .before .before .before .before .offer-all .kept .1 .1 .1 .1 .1 .1 .0) returns)
+    (tie.spec (λ c. omega (arith, c .before .before .before .before .before .before .pre .0 .vertices)) (λ c κs. let p = c .before .before .before .before .before .before .before .pre in (omega (arith, p .0 .vertices), p .0 .kept, p .1)) (λ c κs. omega (arith, c .before .before .before .before .before .before .before .before .before .before .before .before .pre .0 .vertices)) (λ c. omega (arith, c .before .before .before .before .before .before .before .before .before .before .before .before .before .before .before .before .before .pre .0 .vertices))
+    counted-with-requires (λ c. c .before .before .before .before .before .store-points .kept .1 .1 .1 .0) (λ c. c .before .before .before .before .before .store-points .kept .1 .1 .1 .1 .0) (λ c. c .before .before .before .before .before .before .before .before .before .before .offer-all .kept .1 .1 .1 .1 .1 .1 .0) returns)

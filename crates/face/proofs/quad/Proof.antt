@@ -11,9 +11,9 @@ use Rattle.offering.specs.Offered.{offered}
 use Rattle.face.proofs.quad.Statement.{statement}
 use Rattle.face.proofs.quad.Tie as tie
 
-store-face-requires : tie.Need-store-face-requires
-store-face-requires c κs =
-    let o = c .before .before .before .before .before in
+counted-with-requires : tie.Need-counted-with-requires
+counted-with-requires c κs =
+    let o = c .before .before .before .before .before .before .before .before .before .before in
     let a = o .before .before .before .before .before .before .args in
     let p = o .before .before .before .before .before .before .pre in
     let n = all-counted (a .limit) (a .a ∷ a .b ∷ a .c ∷ a .d ∷ []) (triangle 0 1 2 ∷ triangle 0 2 3 ∷ []) (a .out) 0 (a .before + a .t .vertices) (a .t .kept) (a .is .now) (offered (o .offer-quad .result) _) (o .offer-quad .ensures) in
@@ -22,12 +22,14 @@ store-face-requires c κs =
 returns : tie.Need-returns
 unfolding verticesIn list fan quad
 returns c = λ part.
-    let o = c .before .before .before .before .before .before .before .before .before .before in
+    let o = c .before .before .before .before .before .before .before .before .before .before .before in
     let a = o .before .before .before .before .before .before .args in
-    rw (c .before .before .before .before .store-face .ensures _) (face-drawn (a .limit) (a .a ∷ a .b ∷ a .c ∷ a .d ∷ []) (triangle 0 1 2 ∷ triangle 0 2 3 ∷ []) (a .out) (a .before) (a .t) (a .vs .now) (a .ns .now) (a .is .now) (offered (o .offer-quad .result) _) (o .offer-quad .ensures) part)
+    let s = c .before .before .before .before .before .store-points .ensures in
+    rw (c .counted-with .ensures, s .0, s .1)
+    (face-drawn (a .limit) (a .a ∷ a .b ∷ a .c ∷ a .d ∷ []) (triangle 0 1 2 ∷ triangle 0 2 3 ∷ []) (a .out) (a .before) (a .t) (a .vs .now) (a .ns .now) (a .is .now) (offered (o .offer-quad .result) _) (o .offer-quad .ensures) part)
 
 pub quad-spec : {M : Type 1} → statement M
 quad-spec =
     tie.close
-    (tie.spec (λ c. omega arith) (λ c κs. (omega arith, omega arith)) (λ c. refl) store-face-requires (λ c. c .before .before .before .before .store-face .kept .1 .1 .1 .0) (λ c. c .before .before .before .before .store-face .kept .1 .1 .1 .1 .0)
-    (λ c. c .before .before .before .before .before .before .before .before .before .before .offer-quad .kept .1 .1 .1 .1 .1 .1 .1 .1 .0) returns)
+    (tie.spec (λ c. omega arith) (λ c κs. (omega arith, omega arith)) (λ c. refl) (λ c κs. omega (arith, c .before .before .before .before .before .before .before .before .before .before .before .pre .vertices)) counted-with-requires (λ c. c .before .before .before .before .before .store-points .kept .1 .1 .1 .0)
+    (λ c. c .before .before .before .before .before .store-points .kept .1 .1 .1 .1 .0) (λ c. c .before .before .before .before .before .before .before .before .before .before .before .offer-quad .kept .1 .1 .1 .1 .1 .1 .1 .1 .0) returns)
