@@ -1,6 +1,6 @@
 // Points: three f32, by value, with the operations of coords.rs in its order.
 ghost use mathlib.Core.Path.{_≡_};
-ghost use Rattle.coords.specs.Coords.{point, diff, moved, lerp, samePoint, finitePoint};
+ghost use Rattle.coords.specs.Coords.{diff, moved, lerp, samePoint, finitePoint};
 use vectors::Vector;
 
 // A point in the world: metres, right-handed, Z up.
@@ -11,12 +11,6 @@ pub struct Point {
 }
 
 impl Point {
-    pub fn new(x: f32, y: f32, z: f32) -> Point
-        ensures { λ r. ⌜ r ≡ point x y z ⌝ }
-    {
-        Point { x, y, z }
-    }
-
     pub fn sub(self, other: Point) -> Vector
         ensures { λ r. ⌜ r ≡ diff self other ⌝ }
     {

@@ -87,7 +87,7 @@ pub fn offer_quad(
     ensures { λ r. ⌜ offered r (now (is .exit)) ≡ offerAll limit (a ∷ b ∷ c ∷ d ∷ []) out base n (now (is .entry)) (triangle 0 1 2 ∷ triangle 0 2 3 ∷ []) ⌝ }
 {
     let none = Sum {
-        normal: Vector::new(0.0, 0.0, 0.0),
+        normal: Vector::ZERO,
         kept: 0,
         thin: 0,
     };
@@ -164,7 +164,7 @@ pub fn offer_all(
 {
     let m = triangles.len() / 3;
     let mut s = Sum {
-        normal: Vector::new(0.0, 0.0, 0.0),
+        normal: Vector::ZERO,
         kept: 0,
         thin: 0,
     };

@@ -1,7 +1,7 @@
 // Vectors: three f32, by value, with the operations of coords.rs in its order.
 ghost use mathlib.Core.Path.{_≡_};
 ghost use lib.Ieee.{lt};
-ghost use Rattle.vectors.specs.Vectors.{vector, zeroV, plus, less, scale, negate, dot, cross, norm, normalizeOr};
+ghost use Rattle.vectors.specs.Vectors.{zeroV, plus, less, scale, negate, dot, cross, norm, normalizeOr};
 
 // A displacement between points, or a direction.
 pub struct Vector {
@@ -11,11 +11,23 @@ pub struct Vector {
 }
 
 impl Vector {
-    pub fn new(x: f32, y: f32, z: f32) -> Vector
-        ensures { λ r. ⌜ r ≡ vector x y z ⌝ }
-    {
-        Vector { x, y, z }
-    }
+    pub const ZERO: Vector = Vector {
+        x: 0.0,
+        y: 0.0,
+        z: 0.0,
+    };
+
+    pub const X: Vector = Vector {
+        x: 1.0,
+        y: 0.0,
+        z: 0.0,
+    };
+
+    pub const Z: Vector = Vector {
+        x: 0.0,
+        y: 0.0,
+        z: 1.0,
+    };
 
     pub fn add(self, other: Vector) -> Vector
         ensures { λ r. ⌜ r ≡ plus self other ⌝ }
@@ -101,10 +113,6 @@ impl Vector {
     pub fn normalize_or_zero(self) -> Vector
         ensures { λ r. ⌜ r ≡ normalizeOr self zeroV ⌝ }
     {
-        self.normalize_or(Vector {
-            x: 0.0,
-            y: 0.0,
-            z: 0.0,
-        })
+        self.normalize_or(Vector::ZERO)
     }
 }

@@ -31,6 +31,6 @@ pub fn put_points(points: &[f32], sum: Vector, at: u32, vs: &mut [f32], ns: &mut
     if (vs.len() == 0) & (ns.len() == 0) {
         return;
     }
-    let normal = sum.normalize_or(Vector::new(0.0, 0.0, 1.0));
+    let normal = sum.normalize_or(Vector::Z);
     put_vertices(points, normal, at, vs, ns);
 }

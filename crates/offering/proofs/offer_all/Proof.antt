@@ -24,13 +24,13 @@ abbrev μ-loop : tie.MeasureT-loop
 loop-holds : tie.Need-loop-holds Inv-loop μ-loop
 unfolding offerAll trianglesIn
 loop-holds c =
-    let a = c .before .before .before .before .args in
-    (omega arith, refl, refl, rw (c .new .ensures) (fold-start (offerOne (a .limit) (verticesIn (a .points .now)) (a .out) (a .base) (a .n)) (triangleAt (a .triangles .now)) (length (a .triangles .now) / 3) (offered noSum (a .is .now))))
+    let a = c .before .before .before .args in
+    (omega arith, refl, refl, fold-start (offerOne (a .limit) (verticesIn (a .points .now)) (a .out) (a .base) (a .n)) (triangleAt (a .triangles .now)) (length (a .triangles .now) / 3) (offered noSum (a .is .now)))
 
 offer-at-requires : tie.Need-offer-at-requires Inv-loop μ-loop
 unfolding trianglesIn
 offer-at-requires c κs =
-    let s = c .before .before .before .before .before .before .before in
+    let s = c .before .before .before .before .before .before in
     let a = s .args in
     let l = c .before .before .loop in
     let ts = a .triangles .now in
@@ -40,7 +40,7 @@ offer-at-requires c κs =
 
 loop-again : tie.Need-loop-again Inv-loop μ-loop
 loop-again c =
-    let a = c .before .before .before .before .before .before .before .before .before .before .args in
+    let a = c .before .before .before .before .before .before .before .before .before .args in
     let l = c .before .before .before .before .before .loop in
     let e = c .before .before .offer-at .ensures in
     let step = one-counted (a .limit) (verticesIn (a .points .now)) (a .out) (a .base) (a .n) (offered (l .s) (l .is)) _ (triangleAt (a .triangles .now) (l .j)) e in
@@ -48,12 +48,12 @@ loop-again c =
 
 returns : tie.Need-returns Inv-loop μ-loop
 returns c =
-    let a = c .before .before .before .before .before .before .args in
+    let a = c .before .before .before .before .before .args in
     let l = c .before .loop in
     fold-end (offerOne (a .limit) (verticesIn (a .points .now)) (a .out) (a .base) (a .n)) (triangleAt (a .triangles .now)) (length (a .triangles .now) / 3) (l .j) (offered (l .s) (l .is)) _ (c .loop-test .left) (l .inv .3)
 
 pub offer-all-spec : {M : Type 1} → statement M
 offer-all-spec =
     tie.close
-    (tie.spec Inv-loop μ-loop (λ c κs. tt) loop-holds offer-at-requires (λ c. omega arith) (λ c. omega arith) loop-again (λ c. c .before .loop .inv .2)
+    (tie.spec Inv-loop μ-loop loop-holds offer-at-requires (λ c. omega arith) (λ c. omega arith) loop-again (λ c. c .before .loop .inv .2)
     returns)

@@ -31,9 +31,9 @@ returns-2 : tie.Need-returns-2
 returns-2 c =
     let p = c .before .before .before .before in
     let n = p .before .before .before in
-    (p .put-vertices .ensures .0, rw (← n .before .new .ensures, ← n .normalize-or .ensures) (p .put-vertices .ensures .1))
+    (p .put-vertices .ensures .0, rw (← n .normalize-or .ensures) (p .put-vertices .ensures .1))
 
 pub put-points-spec : {M : Type 1} → statement M
 put-points-spec =
     tie.close
-    (tie.spec returns (λ c κs. tt) (λ c κs. tt) (λ c κs. c .before .before .before .before .before .before .before .before .pre) (λ c. c .before .before .before .before .put-vertices .kept .1 .1 .1 .0) (λ c. c .before .before .before .before .put-vertices .kept .1 .1 .1 .1 .0) returns-2)
+    (tie.spec returns (λ c κs. tt) (λ c κs. c .before .before .before .before .before .before .before .pre) (λ c. c .before .before .before .before .put-vertices .kept .1 .1 .1 .0) (λ c. c .before .before .before .before .put-vertices .kept .1 .1 .1 .1 .0) returns-2)
