@@ -26,7 +26,6 @@ use Rattle.face.proofs.Counts.{count}
 use Rattle.face.proofs.Draws.{then}
 use Rattle.fields.specs.Fields.{sectionAt, sectionsAt}
 use Rattle.shapes.specs.Shapes.{Ellipse, ellipse, ellipse0, startOut, endOut, endFace, tubeSide, tubeFaces, tubeCaps, pairs, roundSweepFaces}
-use Rattle.sweeps.proofs.SweepFaces.{size}
 use Rattle.ends.proofs.Rings.{list-more, drew-next}
 use Rattle.sections.specs.Places.{EndPlaces}
 use Rattle.round_sweeps.specs.Rings.{ringAbout}
@@ -60,9 +59,9 @@ side-drawn ca a cb b k p q r s x y h g f =
     drew-next _ (tubeSide (ringAbout ca a) (ringAbout cb b)) k g
     (rw (getD-any a k origin p (omega arith), getD-any a (next 16 k) origin q (omega arith), getD-any b (next 16 k) origin r (omega arith), getD-any b k origin s (omega arith)) f)
 
-pub tube-points : (a b : Ellipse) → sumOf size (tubeFaces a b) ≡ 64
+pub tube-points : (a b : Ellipse) → sumOf (λ (f : Face). length (f .points)) (tubeFaces a b) ≡ 64
 unfolding tubeFaces tubeSide quad
-tube-points a b = sum-list size 4 (tubeSide a b) (λ k. refl) 16 0
+tube-points a b = sum-list (λ (f : Face). length (f .points)) 4 (tubeSide a b) (λ k. refl) 16 0
 
 pub tube-triangles : (a b : Ellipse) → sumOf count (tubeFaces a b) ≡ 32
 unfolding tubeFaces tubeSide quad fan list
@@ -123,7 +122,7 @@ module _ (s : List ℕ) (at : ℕ) where
           ∙ ap (λ (p : ℕ). ellipse (sectionAt s p)) place
 
   -- with the places and the rings that a program works out
-  pub tube-caps-drawn : (n : ℕ) {second last previous : ℕ} (first-ring last-ring : List Point) → 0 < n → EndPlaces at n second last previous
+  tube-caps-drawn : (n : ℕ) {second last previous : ℕ} (first-ring last-ring : List Point) → 0 < n → EndPlaces at n second last previous
       → first-ring ≡ ellipse (sectionAt s at) .ring → last-ring ≡ ellipse (sectionAt s (at + 48 * (n - 1))) .ring
       → endFace first-ring (diff (ellipse (sectionAt s at) .centre) (ellipse (sectionAt s second) .centre)) 4
       ∷ endFace last-ring (diff (ellipse (sectionAt s last) .centre) (ellipse (sectionAt s previous) .centre)) 4 ∷ []
@@ -132,3 +131,18 @@ module _ (s : List ℕ) (at : ℕ) where
       ends-are s at (λ (z : Section). ellipse z .centre) (λ (z : Section) (u : Vector) (z′ : Section) (w : Vector). endFace first-ring u 4 ∷ endFace last-ring w 4 ∷ []) n h p
       ∙ ap₂ (λ (r t : List Point). endFace r (startOut (centres n)) 4 ∷ endFace t (endOut (centres n)) 4 ∷ []) x y
       ∙ tube-caps-at n h
+
+  -- the caps drawn behind the tube
+  pub round-drawn : (n k : ℕ) {second last previous : ℕ} {limit : Float} {before : ℕ} {x y : List Point} {p q c r : Point} {u w : Vector} {d d₁ d₂ d₃ : Drawing} → k + 1 ≡ n
+      → EndPlaces at n second last previous → x ≡ ellipse (sectionAt s at) .ring → y ≡ ellipse (sectionNumber k) .ring → p ≡ ellipse (sectionAt s at) .centre
+      → q ≡ ellipse (sectionAt s second) .centre → c ≡ ellipse (sectionNumber k) .centre → r ≡ ellipse (sectionAt s previous) .centre → u ≡ diff p q → w ≡ diff c r
+      → Drew limit (pairs tubeFaces (map ellipse (sectionsAt s (k + 1) at))) before d d₁ → Drew limit (endFace x u 4 ∷ []) before d₁ d₂ → Drew limit (endFace y w 4 ∷ []) before d₂ d₃
+      → Drew limit (roundSweepFaces (sectionsAt s n at)) before d d₃
+  unfolding roundSweepFaces
+  round-drawn n k {last = last} {limit} {x = x} {y} {c = c} g e f h i j l m v z a b t =
+      let at-last : at + 48 * k ≡ last = omega (arith, e .end) in
+      let at-end : at + 48 * k ≡ at + 48 * (n - 1) = omega arith in
+      let caps =
+      ap₂ (λ (u w : Vector). endFace x u 4 ∷ endFace y w 4 ∷ []) (v ∙ ap₂ diff i j) (z ∙ ap₂ diff (l ∙ ap (λ (o : ℕ). ellipse (sectionAt s o) .centre) at-last) m)
+      ∙ tube-caps-drawn n x y (omega arith) e f (h ∙ ap (λ (o : ℕ). ellipse (sectionAt s o) .ring) at-end) in
+      rw (← caps) (then limit (rw g at a) (then limit b t))

@@ -18,9 +18,7 @@ type RingPoints = [Point; 16];
 pub fn centre(s: Section) -> Point
     ensures { λ r. ⌜ r ≡ ellipse s .centre ⌝ }
 {
-    let lb = s.left.base;
-    let rt = s.right.top;
-    lb.lerp(rt, 0.5)
+    s.left.base.lerp(s.right.top, 0.5)
 }
 
 fn ellipse_point(centre: Point, across: Vector, up: Vector, k: usize) -> Point
@@ -46,12 +44,9 @@ fn ellipse_points(centre: Point, across: Vector, up: Vector) -> [Point; 16]
 pub fn ellipse(s: Section) -> RingPoints
     ensures { λ r. ⌜ r ≡ ellipse s .ring ⌝ }
 {
-    let lb = s.left.base;
-    let lt = s.left.top;
-    let rt = s.right.top;
     let c = centre(s);
-    let across = lb.lerp(lt, 0.5).sub(c);
-    let up = lt.lerp(rt, 0.5).sub(c);
+    let across = s.left.base.lerp(s.left.top, 0.5).sub(c);
+    let up = s.left.top.lerp(s.right.top, 0.5).sub(c);
     ellipse_points(c, across, up)
 }
 

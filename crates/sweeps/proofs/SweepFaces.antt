@@ -26,7 +26,7 @@ use Rattle.shapes.specs.Shapes.{section0, isThinSection, isFlatSection, pairFac
 use Rattle.sections.proofs.Neighbours.{ends-are}
 
 -- the points of a face
-abbrev pub size : Face → ℕ
+abbrev size : Face → ℕ
 size f = length (f .points)
 
 four-most : (h : Face → ℕ) (c : ℕ) (thin flat : Bool) (l r t f : Face) → h l ≡ c → h r ≡ c → h t ≡ c → h f ≡ c

@@ -12,7 +12,7 @@ use Rattle.round_sweeps.proofs.ellipses.ellipse.Tie as tie
 
 returns : tie.Need-returns
 unfolding ellipse
-returns c = let e = c .before .before .before .before .before .centre .ensures in c .ellipse-points .ensures ∙ ap (λ (p : Point). list (ellipsePoint p (c .before .before .before .sub .result) (c .before .sub2 .result)) 16 0) e ∙ ap₂ (λ (u w : Vector). list (ellipsePoint (ellipse (c .before .before .before .before .before .before .before .before .before .args .s) .centre) u w) 16 0) (c .before .before .before .sub .ensures ∙ ap₂ diff (c .before .before .before .before .lerp .ensures) e) (c .before .sub2 .ensures ∙ ap₂ diff (c .before .before .lerp2 .ensures) e)
+returns c = let e = c .before .before .before .before .before .centre .ensures in c .ellipse-points .ensures ∙ ap (λ (p : Point). list (ellipsePoint p (c .before .before .before .sub .result) (c .before .sub2 .result)) 16 0) e ∙ ap₂ (λ (u w : Vector). list (ellipsePoint (ellipse (c .before .before .before .before .before .before .args .s) .centre) u w) 16 0) (c .before .before .before .sub .ensures ∙ ap₂ diff (c .before .before .before .before .lerp .ensures) e) (c .before .sub2 .ensures ∙ ap₂ diff (c .before .before .lerp2 .ensures) e)
 
 pub ellipse-spec : {M : Type 1} → statement M
 ellipse-spec =

@@ -3,7 +3,6 @@ use mathlib.Core.Path.{_≡_}
 use Prim.Native.Nat.{_-_, _*_, _≤_}
 use native.Mathlib.Omega.{arith}
 use lib.ListN.{length}
-use borrow.Author.Needs.{needs}
 use Rattle.lists.specs.Loops.{list, sumOf}
 use Rattle.face.specs.Drawing.{drawing, Drew, Room}
 use Rattle.face.specs.Faces.{fan, quad}
@@ -48,6 +47,6 @@ returns c = let l = c .before .loop in let e : l .k ≡ 16 = omega arith in rw e
 pub tube-spec : {M : Type 1} → statement M
 tube-spec =
     tie.close
-    (tie.spec Inv-loop μ-loop loop-holds (λ c. search needs) (λ c. search needs) (λ c. search needs) (λ c. search needs) (λ c. search needs)
-    (λ c. search needs) (λ c. search needs) (λ c. search needs) (λ c. search needs) (λ c κs. search needs) quad-requires (λ c. search needs)
-    (λ c. search needs) loop-again same-length same-length-2 same-length-3 returns)
+    (tie.spec Inv-loop μ-loop loop-holds (λ c. omega arith) (λ c. omega arith) (λ c. omega arith) (λ c. omega arith) (λ c. omega arith)
+    (λ c. omega arith) (λ c. omega arith) (λ c. omega arith) (λ c. omega arith) (λ c κs. tt) quad-requires (λ c. omega arith)
+    (λ c. omega arith) loop-again same-length same-length-2 same-length-3 returns)
