@@ -6,18 +6,19 @@ use Prim.Native.Nat.{ℕ, suc, _+_, _-_, _<_, _≤_}
 use native.Mathlib.Nat.{add-zero, le-refl}
 use native.Mathlib.Numerals.{add-one}
 use native.Mathlib.Omega.{arith}
-use lib.ListN.{length, getD, take, drop, drop-of-length-le, take-append-drop, set}
-use lib.Seq.{take-suc, take-all, drop-cons, length-take-le}
+use lib.ListN.{length, getD, take, drop, take-append-drop, set, length-append}
+use lib.Seq.{take-suc, take-all, length-take-le}
 use Rattle.lists.specs.Loops.{list, sumOf}
 use Rattle.lists.proofs.Lists.{sum-append, length-list}
 use Rattle.lists.proofs.Loops.{list-step}
 use Rattle.lid.specs.declared.Flat.{Flat}
 use Rattle.lid.specs.Log.{Entry, entry}
 use Rattle.lid.specs.Rings.{tooSmall, turnHole}
-use Rattle.lid.specs.Written.{cornerTotal}
+use Rattle.lid.specs.Written.{cornerTotal, logWith}
 use Rattle.lid.specs.Steps.{turned}
 use Rattle.holes.specs.Holes.{startOf, holeCorners, skips}
 use Rattle.lid.proofs.Areas.Lid.{turnHole-length}
+use Rattle.entries.proofs.RecordLaws.{log-some}
 use Rattle.ring.proofs.RingLaws.{up, fill-next}
 use Rattle.splicing.proofs.SpliceLaws.{front-back}
 
@@ -68,24 +69,45 @@ hole-size fs outer counts g = turnHole-length fs (holeCorners outer counts g) �
 
 -- ---- the entries of skipped holes
 
-pub skips-cons : (g : ℕ) (l : List Bool) (k : ℕ) → k < length l → skips g (drop k l) ≡ skips g (getD l k false ∷ []) ++ skips (g + 1) (drop (k + 1) l)
-unfolding skips
-skips-cons g l k h = rw (drop-cons l k false, add-one g, add-one k) (go (getD l k false) (skips (suc g) (drop (suc k) l)))
-  where
-    go : (b : Bool) (later : List Entry) → cond b (entry 6 g 0 0 ∷ later) later ≡ cond b (entry 6 g 0 0 ∷ []) [] ++ later
-    go true later = refl
-    go false later = refl
-
-pub skips-end : (g : ℕ) (l : List Bool) (k : ℕ) → length l ≤ k → skips g (drop k l) ≡ []
-unfolding skips
-skips-end g l k h = rw (drop-of-length-le l h)
-
-pub skips-few : (g : ℕ) (b : Bool) → length (skips g (b ∷ [])) ≤ 1
+skips-few : (g : ℕ) (b : Bool) → length (skips g (b ∷ [])) ≤ 1
 unfolding skips
 skips-few g true = omega arith
 skips-few g false = omega arith
 
+module _ (f : ℕ → Bool) (n g : ℕ) where
+  skips-step : g < n → skips g (list f (n - g) g) ≡ skips g (f g ∷ []) ++ skips (g + 1) (list f (n - (g + 1)) (g + 1))
+  unfolding skips
+  skips-step h = rw (list-step f n g h, add-one g) (go (f g) (skips (suc g) (list f (n - suc g) (suc g))))
+    where
+      go : (b : Bool) (later : List Entry) → cond b (entry 6 g 0 0 ∷ later) later ≡ cond b (entry 6 g 0 0 ∷ []) [] ++ later
+      go true later = refl
+      go false later = refl
+
+  pub skips-end : n ≤ g → skips g (list f (n - g) g) ≡ []
+  unfolding skips list
+  skips-end h = let none : n - g ≡ 0 = omega arith in rw none
+
+  -- one more hole: b says whether it is skipped, and k entries are r then
+  module _ (h : g < n) (b : Bool) (e : b ≡ f g) (k r : ℕ) (count : r ≡ k + length (skips g (b ∷ []))) where
+    pub skips-low : k ≤ g → r ≤ g + 1
+    skips-low low = omega (arith, count, skips-few g b)
+
+    pub skips-count : (t : ℕ) → k + length (skips g (list f (n - g) g)) ≡ t → r + length (skips (g + 1) (list f (n - (g + 1)) (g + 1))) ≡ t
+    skips-count t inv =
+        let c : r ≡ k + length (skips g (f g ∷ [])) = rw (← e) count in
+        omega (arith, c, ap length (skips-step h), length-append (skips g (f g ∷ [])) (skips (g + 1) (list f (n - (g + 1)) (g + 1))), inv)
+
+    pub skips-log : (log log₁ t : List ℕ) → log₁ ≡ logWith log k (skips g (b ∷ [])) → logWith log k (skips g (list f (n - g) g)) ≡ t
+        → logWith log₁ r (skips (g + 1) (list f (n - (g + 1)) (g + 1))) ≡ t
+    skips-log log log₁ t wrote inv =
+        let c : r ≡ k + length (skips g (f g ∷ [])) = rw (← e) count in
+        let w : log₁ ≡ logWith log k (skips g (f g ∷ [])) = rw (← e) wrote in
+        log-some log _ _ k _ _ _ w c (rw (skips-step h) at inv)
+
 -- ---- a buffer that gets the values of f, place by place
+
+pub in-room : {g n room size : ℕ} → g < n → n ≤ room → size ≡ room → g < size
+in-room h fits e = omega arith
 
 module _ {A : Type 0} (f : ℕ → A) (l : List A) (n k : ℕ) (inv : take k l ++ list f (n - k) k ≡ list f n 0) where
   pub list-put : (v : A) → k < n → k < length l → v ≡ f k → take (k + 1) (set l k v) ++ list f (n - (k + 1)) (k + 1) ≡ list f n 0

@@ -67,31 +67,6 @@ fn survey_hole(
     Surveyed { right, small }
 }
 
-// Surveys all holes; what is found of them stands in the first places of `rights` and `small`.
-pub fn survey(
-    us: &[f32],
-    vs: &[f32],
-    outer: u32,
-    counts: &[u32],
-    hole: &mut [u32],
-    rights: &mut [f32],
-    small: &mut [bool],
-)
-    requires { ⌜ cornerTotal outer (now counts) < 2 ^ 32 ⌝ }
-    requires { ⌜ sumOf (λ n. n) (now counts) ≤ length (now hole) ⌝ }
-    requires { ⌜ (length (now counts) ≤ length (now rights)) × (length (now counts) ≤ length (now small)) ⌝ }
-    ensures { λ _. ⌜ take (length (now (counts .entry))) (now (rights .exit)) ≡ rightsOf (flats (now (us .entry)) (now (vs .entry))) outer (now (counts .entry)) ⌝ }
-    ensures { λ _. ⌜ take (length (now (counts .entry))) (now (small .exit)) ≡ smallOf (flats (now (us .entry)) (now (vs .entry))) outer (now (counts .entry)) ⌝ }
-{
-    let mut g = 0;
-    while g < counts.len() {
-        let s = survey_hole(us, vs, outer, counts, hole, g);
-        rights[g] = s.right;
-        small[g] = s.small;
-        g += 1;
-    }
-}
-
 // Writes hole g's entry, if it is skipped. The result is how many entries there then are.
 fn put_skip(small: bool, log: &mut [u32], n: u32, g: u32) -> u32
     requires { ⌜ n + 1 < 2 ^ 32 ⌝ }
@@ -105,16 +80,33 @@ fn put_skip(small: bool, log: &mut [u32], n: u32, g: u32) -> u32
     n
 }
 
-// Writes an entry for each hole that is skipped, from the first entry of the log on. The result is how many they are.
-pub fn put_skipped(small: &[bool], log: &mut [u32]) -> u32
-    requires { ⌜ length (now small) < 2 ^ 31 ⌝ }
-    ensures { λ r. ⌜ r ≡ length (skips 0 (now (small .entry))) ⌝ }
-    ensures { λ _. ⌜ now (log .exit) ≡ logWith (now (log .entry)) 0 (skips 0 (now (small .entry))) ⌝ }
+// Surveys all holes: what is found of them stands in the first places of `rights` and `small`, and each that is skipped has its entry, from
+// the first of the log on. The result is how many those are.
+pub fn survey(
+    us: &[f32],
+    vs: &[f32],
+    outer: u32,
+    counts: &[u32],
+    hole: &mut [u32],
+    rights: &mut [f32],
+    small: &mut [bool],
+    log: &mut [u32],
+) -> u32
+    requires { ⌜ (cornerTotal outer (now counts) < 2 ^ 32) × (length (now counts) < 2 ^ 31) ⌝ }
+    requires { ⌜ sumOf (λ n. n) (now counts) ≤ length (now hole) ⌝ }
+    requires { ⌜ (length (now counts) ≤ length (now rights)) × (length (now counts) ≤ length (now small)) ⌝ }
+    ensures { λ _. ⌜ take (length (now (counts .entry))) (now (rights .exit)) ≡ rightsOf (flats (now (us .entry)) (now (vs .entry))) outer (now (counts .entry)) ⌝ }
+    ensures { λ _. ⌜ take (length (now (counts .entry))) (now (small .exit)) ≡ smallOf (flats (now (us .entry)) (now (vs .entry))) outer (now (counts .entry)) ⌝ }
+    ensures { λ r. ⌜ r ≡ length (skips 0 (smallOf (flats (now (us .entry)) (now (vs .entry))) outer (now (counts .entry)))) ⌝ }
+    ensures { λ _. ⌜ now (log .exit) ≡ logWith (now (log .entry)) 0 (skips 0 (smallOf (flats (now (us .entry)) (now (vs .entry))) outer (now (counts .entry)))) ⌝ }
 {
     let mut n = 0;
     let mut g = 0;
-    while g < small.len() {
-        n = put_skip(small[g], log, n, g as u32);
+    while g < counts.len() {
+        let s = survey_hole(us, vs, outer, counts, hole, g);
+        rights[g] = s.right;
+        small[g] = s.small;
+        n = put_skip(s.small, log, n, g as u32);
         g += 1;
     }
     n

@@ -5,7 +5,7 @@ use mathlib.Core.List.{List, [], _∷_, _++_, append-assoc, map}
 use Prim.Native.Nat.{ℕ, _+_, _*_, _<_, _≤_, _^_}
 use native.Mathlib.Nat.{zero-add}
 use native.Mathlib.Omega.{arith}
-use lib.ListN.{length, getD, take, drop, length-append, length-take}
+use lib.ListN.{length, getD, take, drop, length-append, length-take, length-map}
 use lib.Seq.{length-take-le, length-front}
 use lib.Ieee.{Float}
 use Rattle.lists.specs.Each.{Each}
@@ -31,10 +31,7 @@ use Rattle.triangulation.proofs.OrderLaws.{order-is, skips-are, order-j
 use Rattle.entries.proofs.RecordLaws.{log-some}
 use Rattle.splicing.proofs.SpliceLaws.{front-back}
 
-pub join-rooms : (n k long : ℕ) → n + k + long + 1 < 2 ^ 32 → (long < 2 ^ 32) × (n + k < 2 ^ 32)
-join-rooms n k long room = (omega (arith, room), omega (arith, room))
-
--- what `join_and_cut` does: j are the holes joined
+-- a ring whose holes are joined, and then cut
 module _ (fs : List Flat) (hs : List Hole) (ring ring′ log log₁ : List ℕ) (n m : ℕ) (joined : JoinsAll (joinAll fs hs ring) ring′ log log₁ n m) where
   pub joined-fits : m ≤ length ring′
   joined-fits = omega (arith, ap length (joined .joined), joined .places, length-take m ring′)
@@ -63,12 +60,15 @@ module _ (fs : List Flat) (hs : List Hole) (ring ring′ log log₁ : List ℕ) 
 pub still : {n k m : ℕ} → m ≡ k → n ≤ k → n ≤ m
 still {n} e h = subst (λ (i : ℕ). n ≤ i) (sym e) h
 
+pub few-low : {n : ℕ} → n ≤ 32 → n < 2 ^ 31
+few-low h = omega arith
+
 -- the first part of a buffer is no longer than asked for
 pub front-few : {A : Type 0} (n : ℕ) (l : List A) (m : ℕ) → n ≤ m → length (take n l) ≤ m
 front-few n l m h = omega (arith, length-take n l, h)
 
-pub front-low : {A : Type 0} (n : ℕ) (l : List A) → n ≤ 32 → (length (take n l) < 2 ^ 31) × (length (take n l) < 2 ^ 32)
-front-low n l h = (omega (arith, length-take n l, h), omega (arith, length-take n l, h))
+pub front-low : {A : Type 0} (n : ℕ) (l : List A) → n ≤ 32 → length (take n l) < 2 ^ 32
+front-low n l h = omega (arith, length-take n l, h)
 
 -- buffers with room
 pub buffers-fit : (outer : ℕ) (counts : List ℕ) (n : ℕ) → n ≤ 576 → length counts ≤ 32 → cornerTotal outer counts + (length counts + length counts) ≤ n → BuffersFit outer counts n n
@@ -101,11 +101,11 @@ module _ (outer : ℕ) (counts ring : List ℕ) (hole : ℕ) where
 module _ (fs : List Flat) (outer : ℕ) (counts : List ℕ) where
   -- what `prepare` does
   pub prepare-done : (room : ℕ) (rights : List Float) (small : List Bool) (order log log₁ : List ℕ) (r : Prepared) → sumOf (λ i. i) counts ≤ room
-      → rights ≡ rightsOf fs outer counts → small ≡ smallOf fs outer counts → r .entries ≡ length (skips 0 small) → log₁ ≡ logWith log 0 (skips 0 small)
-      → Ordered (orderOf rights small) order (r .holes) → Prepares fs outer counts room order log log₁ r
+      → rights ≡ rightsOf fs outer counts → small ≡ smallOf fs outer counts → r .entries ≡ length (skips 0 (smallOf fs outer counts))
+      → log₁ ≡ logWith log 0 (skips 0 (smallOf fs outer counts)) → Ordered (orderOf rights small) order (r .holes) → Prepares fs outer counts room order log log₁ r
   prepare-done room rights small order log log₁ r fits er es n w o =
       let stands : take (r .holes) order ≡ orderOf (rightsOf fs outer counts) (smallOf fs outer counts) = rw (er, es) at (o .stands) in
-      let skipped = ap (skips 0) es ∙ skips-are fs outer counts in
+      let skipped = skips-are fs outer counts in
       record {
         written = rw skipped at w;
         entries = rw skipped at n;
@@ -119,12 +119,27 @@ module _ (fs : List Flat) (outer : ℕ) (counts : List ℕ) where
     pub order-joins : (hole : ℕ) → hole ≡ room → Each (Joinable counts hole) (take (p .holes) order)
     order-joins hole e = subst (λ (n : ℕ). Each (Joinable counts n) (take (p .holes) order)) (sym e) (done .joinable)
 
-    pub order-fits : (ring hole : ℕ) → BuffersFit outer counts ring room → length order ≡ 32 → hole ≡ room
-        → (outer + sumOf (λ g. getD counts g 0 + 2) (take (p .holes) order) ≤ ring) × (p .entries + length (take (p .holes) order) + ring + 1 < 2 ^ 32) × (ring ≤ hole)
-    order-fits ring hole fit size e = (
+    order-size : length (take (p .holes) order) ≡ p .holes
+    order-size = length-take-le (p .holes) order (done .fewer)
+
+    pub order-count : p .holes ≡ length (map (holeAt fs outer counts) (take (p .holes) order))
+    order-count = sym (length-map (take (p .holes) order) (holeAt fs outer counts) ∙ order-size)
+
+    pub order-room : (ring : ℕ) → BuffersFit outer counts ring room → length order ≡ 32 → p .entries + p .holes + ring + 1 < 2 ^ 32
+    order-room ring fit size = omega (arith, done .entries, holes-each fs 0 (ringsFrom outer counts), rings-count outer counts, done .fewer, size, fit .holes, fit .few)
+
+    pub holes-low : length order ≡ 32 → p .holes < 2 ^ 32
+    holes-low size = omega (arith, done .fewer, size)
+
+    pub order-low : (ring : ℕ) → BuffersFit outer counts ring room → length order ≡ 32 → p .entries + p .holes < 2 ^ 32
+    order-low ring fit size = omega (arith, order-room ring fit size)
+
+    pub order-fits : (ring : ℕ) → BuffersFit outer counts ring room → length order ≡ 32
+        → (outer + sumOf (λ g. getD counts g 0 + 2) (take (p .holes) order) ≤ ring) × (ring < 2 ^ 32) × (p .entries + length (take (p .holes) order) < 2 ^ 32)
+    order-fits ring fit size = (
       omega (arith, order-adds fs outer counts (take (p .holes) order) (done .ordered), fit .places),
-      omega (arith, done .entries, holes-each fs 0 (ringsFrom outer counts), rings-count outer counts, length-take (p .holes) order, fit .holes, fit .few),
-      omega (arith, fit .same, e),
+      omega (arith, fit .few),
+      omega (arith, order-low ring fit size, order-size),
     )
 
     pub open-draws : (ring log₂ triangles triangles₂ : List ℕ) (r : LidCounts) → take outer ring ≡ turnOuter fs (list (λ i. i) outer 0)

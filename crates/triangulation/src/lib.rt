@@ -15,7 +15,6 @@ ghost use Rattle.triangulation.specs.Opened.{Prepares, openEntries, open
 use cutting::cut_ring;
 use entries::put_entry;
 use holes::hole_start;
-use holes::put_skipped;
 use holes::survey;
 use joining::join_holes;
 use lid::LidCounts;
@@ -40,46 +39,10 @@ fn prepare(
 {
     let mut rights = [0.0; 32];
     let mut small = [false; 32];
-    survey(us, vs, outer, counts, hole, &mut rights, &mut small);
+    let entries = survey(us, vs, outer, counts, hole, &mut rights, &mut small, log);
     let n = counts.len();
-    let entries = put_skipped(&small[..n], log);
     let holes = order_holes(&rights[..n], &small[..n], order);
     Prepared { entries, holes }
-}
-
-// Joins the holes of an order to the outer ring, which stands turned in the first places of `ring`, and cuts the whole, from entry n of the log on.
-// What a hole was written to then holds the notes of the clipping.
-fn join_and_cut(
-    us: &[f32],
-    vs: &[f32],
-    outer: u32,
-    counts: &[u32],
-    order: &[u32],
-    ring: &mut [u32],
-    hole: &mut [u32],
-    log: &mut [u32],
-    n: u32,
-    triangles: &mut [u32],
-) -> LidCounts
-    requires { ⌜ cornerTotal outer (now counts) < 2 ^ 32 ⌝ }
-    requires { ⌜ Each (Joinable (now counts) (length (now hole))) (now order) ⌝ }
-    requires { ⌜ (outer + sumOf (λ g. getD (now counts) g 0 + 2) (now order) ≤ length (now ring)) × (n + length (now order) + length (now ring) + 1 < 2 ^ 32) × (length (now ring) ≤ length (now hole)) ⌝ }
-    ensures { λ r. ⌜ WritesLid (openEntries (flats (now (us .entry)) (now (vs .entry))) (joinAll (flats (now (us .entry)) (now (vs .entry))) (map (holeAt (flats (now (us .entry)) (now (vs .entry))) outer (now (counts .entry))) (now (order .entry))) (take outer (now (ring .entry))))) (openTriangles (flats (now (us .entry)) (now (vs .entry))) (joinAll (flats (now (us .entry)) (now (vs .entry))) (map (holeAt (flats (now (us .entry)) (now (vs .entry))) outer (now (counts .entry))) (now (order .entry))) (take outer (now (ring .entry))))) (now (log .entry)) (now (log .exit)) n (now (triangles .entry)) (now (triangles .exit)) r ⌝ }
-{
-    let m = join_holes(
-        us,
-        vs,
-        outer,
-        counts,
-        order,
-        ring,
-        outer as usize,
-        hole,
-        log,
-        n,
-    );
-    let k = order.len() as u32;
-    cut_ring(us, vs, &mut ring[..m], hole, log, n + k, triangles)
 }
 
 // Cuts a lid whose outer ring stands turned in the first places of `ring`.
@@ -91,17 +54,36 @@ fn cut_open(
     ring: &mut [u32],
     hole: &mut [u32],
     log: &mut [u32],
-    ts: &mut [u32],
+    triangles: &mut [u32],
 ) -> LidCounts
     requires { ⌜ BuffersFit outer (now counts) (length (now ring)) (length (now hole)) ⌝ }
     requires { ⌜ take outer (now ring) ≡ turnOuter (flats (now us) (now vs)) (list (λ i. i) outer 0) ⌝ }
-    ensures { λ r. ⌜ WritesLid (lidOpen (flats (now (us .entry)) (now (vs .entry))) outer (now (counts .entry)) .log) (lidOpen (flats (now (us .entry)) (now (vs .entry))) outer (now (counts .entry)) .triangles) (now (log .entry)) (now (log .exit)) 0 (now (ts .entry)) (now (ts .exit)) r ⌝ }
+    ensures { λ r. ⌜ WritesLid (lidOpen (flats (now (us .entry)) (now (vs .entry))) outer (now (counts .entry)) .log) (lidOpen (flats (now (us .entry)) (now (vs .entry))) outer (now (counts .entry)) .triangles) (now (log .entry)) (now (log .exit)) 0 (now (triangles .entry)) (now (triangles .exit)) r ⌝ }
 {
     let mut order = [0; 32];
     let p = prepare(us, vs, outer, counts, hole, &mut order, log);
     let c = p.holes;
-    let e = p.entries;
-    join_and_cut(us, vs, outer, counts, &order[..c], ring, hole, log, e, ts)
+    let m = join_holes(
+        us,
+        vs,
+        outer,
+        counts,
+        &order[..c],
+        ring,
+        outer as usize,
+        hole,
+        log,
+        p.entries,
+    );
+    cut_ring(
+        us,
+        vs,
+        &mut ring[..m],
+        hole,
+        log,
+        p.entries + c as u32,
+        triangles,
+    )
 }
 
 // Cuts a lid, as `triangulate`, with room to work in.
@@ -129,23 +111,6 @@ fn cut_lid(
     cut_open(us, vs, outer, counts, ring, hole, log, triangles)
 }
 
-// As `triangulate`, for a lid of at most 32 places: most have few corners, and small arrays are cleared sooner.
-fn triangulate_few(
-    us: &[f32],
-    vs: &[f32],
-    outer: u32,
-    counts: &[u32],
-    log: &mut [u32],
-    triangles: &mut [u32],
-) -> LidCounts
-    requires { ⌜ (cornerTotal outer (now counts) + (length (now counts) + length (now counts)) ≤ 32) × (length (now counts) ≤ 32) ⌝ }
-    ensures { λ r. ⌜ WritesLid (lidOf (flats (now (us .entry)) (now (vs .entry))) outer (now (counts .entry)) .log) (lidOf (flats (now (us .entry)) (now (vs .entry))) outer (now (counts .entry)) .triangles) (now (log .entry)) (now (log .exit)) 0 (now (triangles .entry)) (now (triangles .exit)) r ⌝ }
-{
-    let mut ring = [0; 32];
-    let mut hole = [0; 32];
-    cut_lid(us, vs, outer, counts, &mut ring, &mut hole, log, triangles)
-}
-
 // Cuts the lid of an outline's flat corners, whose coordinates are `us` and `vs`: `outer` corners and then those of the holes, of the given
 // counts. Its log goes to the front of `log`, and its triangles, three corner numbers each, to the front of `triangles`.
 pub fn triangulate(
@@ -160,8 +125,11 @@ pub fn triangulate(
     ensures { λ r. ⌜ WritesLid (lidOf (flats (now (us .entry)) (now (vs .entry))) outer (now (counts .entry)) .log) (lidOf (flats (now (us .entry)) (now (vs .entry))) outer (now (counts .entry)) .triangles) (now (log .entry)) (now (log .exit)) 0 (now (triangles .entry)) (now (triangles .exit)) r ⌝ }
 {
     let n = counts.len();
+    // Most lids have few corners, and small arrays are cleared sooner.
     if hole_start(outer, counts, n) as usize + 2 * n <= 32 {
-        return triangulate_few(us, vs, outer, counts, log, triangles);
+        let mut ring = [0; 32];
+        let mut hole = [0; 32];
+        return cut_lid(us, vs, outer, counts, &mut ring, &mut hole, log, triangles);
     }
     let mut ring = [0; 576];
     let mut hole = [0; 576];
