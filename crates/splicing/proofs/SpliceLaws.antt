@@ -1,19 +1,17 @@
 -- Corners inserted into a ring in place, and a hole spliced in. Assumes nothing.
 use mathlib.Core.Path.{_≡_, refl, sym, ap, ap₂, _∙_}
+use mathlib.Core.Bool.{Bool, true, false}
 use mathlib.Core.List.{List, [], _∷_, _++_, append-assoc, append-nil}
-use Prim.Native.Nat.{ℕ, zero, suc, _+_, _-_, _<_, _≤_}
-use native.Mathlib.Nat.{le-of-suc-le-suc, not-suc-le-zero, le-of-lt, le-of-eq}
+use Prim.Native.Nat.{ℕ, zero, suc, _+_, _-_, _%_, _<_, _≤_}
+use native.Mathlib.Nat.{le-of-suc-le-suc, not-suc-le-zero, le-of-lt, mod-eq-of-lt, mod-eq-sub-mod}
 use native.Mathlib.Numerals.{add-one}
 use native.Mathlib.Omega.{arith}
-use lib.ListN.{length, getD, take, drop, set, drop-of-length-le, length-append, length-drop}
-use lib.Seq.{take-set-lt, getD-take, set-split, take-all, take-take, take-at, drop-at, take-suc, length-take-le, length-front}
-use borrow.Rule.Slice.PartMut.{midOf}
+use lib.Dec.{ltb}
+use lib.ListN.{length, getD, take, drop, set, drop-of-length-le, length-append, length-drop, length-take, List·getD-append}
+use lib.Seq.{take-set-lt, getD-take, getD-drop, getD-append-add, set-split, set-at, take-all, take-length, take-take, take-append-le, take-at, drop-at, take-suc, drop-cons, append-snoc, length-take-le, paste, paste-suc}
+use borrow.Author.Tests.{ltb-true, ltb-false}
 use Rattle.lid.specs.Bridges.{splice}
-use Rattle.lid.specs.Steps.{insertAt, insertAll}
-
--- what is lent as `&s[n..]`
-pub mid-tail : {A : Type 0} (n : ℕ) (l : List A) → midOf n (length l - n) l ≡ drop n l
-mid-tail n l = take-all (length l - n) (drop n l) (le-of-eq (length-drop n l))
+use Rattle.lid.specs.Steps.{insertAt}
 
 insert-suc : (l : List ℕ) (j c : ℕ) → j < length l → insertAt (suc j) (getD l j 0) (set l j c) ≡ insertAt j c l
 unfolding insertAt
@@ -36,134 +34,103 @@ insert-last l n c e =
     set-split l n c (omega arith)
     ∙ ap₂ (λ (a b : List ℕ). a ++ c ∷ b) (sym (take-all n (take n l) (omega arith))) (drop-of-length-le l {i = suc n} (omega arith) ∙ sym (drop-of-length-le (take n l) {i = n} (omega arith)))
 
--- ---- several
-
--- in the middle of three lists
-module _ (i : ℕ) (a r : List ℕ) (h : i ≤ length r) where
-  front : length (take i r ++ a) ≡ i + length a
-  front = length-append (take i r) a ∙ ap (λ (k : ℕ). k + length a) (length-take-le i r h)
-
-  take-front : take (i + length a) (insertAll i a r) ≡ take i r ++ a
-  unfolding insertAll
-  take-front = take-at (take i r ++ a) (drop i r) (i + length a) front
-
-  drop-front : drop (i + length a) (insertAll i a r) ≡ drop i r
-  unfolding insertAll
-  drop-front = drop-at (take i r ++ a) (drop i r) (i + length a) front
-
-  -- what is inserted behind what was inserted
-  pub insert-behind : (b : List ℕ) → insertAll (i + length a) b (insertAll i a r) ≡ insertAll i (a ++ b) r
-  unfolding insertAll
-  insert-behind b =
-      ap₂ (λ (p q : List ℕ). p ++ b ++ q) take-front drop-front
-      ∙ ap (λ (p : List ℕ). p ++ drop i r) (append-assoc (take i r) a b)
-
-pub insert-none : (i : ℕ) (r : List ℕ) → insertAll i [] r ≡ r
-unfolding insertAll
-insert-none i r = ap (λ (p : List ℕ). p ++ drop i r) (append-nil (take i r)) ∙ lib.ListN.take-append-drop i r
-
-pub insert-single : (i v : ℕ) (r : List ℕ) → insertAt i v r ≡ insertAll i (v ∷ []) r
-unfolding insertAt insertAll
-insert-single i v r = sym (append-assoc (take i r) (v ∷ []) (drop i r))
-
--- one more of a list's corners
-pub insert-more : (i k : ℕ) (s r : List ℕ) → i ≤ length r → k < length s → insertAt (i + k) (getD s k 0) (insertAll i (take k s) r) ≡ insertAll i (take (k + 1) s) r
-insert-more i k s r h hk =
-    let e : length (take k s) ≡ k = length-take-le k s (le-of-lt hk) in
-    insert-single (i + k) (getD s k 0) (insertAll i (take k s) r)
-    ∙ ap (λ (n : ℕ). insertAll (i + n) (getD s k 0 ∷ []) (insertAll i (take k s) r)) (sym e)
-    ∙ insert-behind i (take k s) r h (getD s k 0 ∷ [])
-    ∙ ap (λ (p : List ℕ). insertAll i p r) (sym (take-suc s k 0 hk) ∙ ap (λ (n : ℕ). take n s) (sym (add-one k)))
-
--- ---- the loop of `insert_all`, and `splice`
+-- ---- a hole spliced in: room is made for it, and its corners are written, from its place b round to b again
 
 -- a front that is lent comes back as x
 pub front-back : (l x : List ℕ) (e n : ℕ) → e ≡ n → e ≤ length l → length x ≡ length (take e l) → take n (x ++ drop e l) ≡ x
 front-back l x e n q h k = take-at x (drop e l) n (k ∙ length-take-le e l h ∙ q)
 
-module _ (ring₀ ring src x : List ℕ) (i kept k : ℕ) (long : length ring ≡ length ring₀) (room : kept + length src ≡ length ring₀) (low : i ≤ kept) (more : k < length src)
-    (inv : take (kept + k) ring ≡ insertAll i (take k src) (take kept ring₀))
-    (wrote : x ≡ insertAt (i + k) (getD src k 0) (take (length (take (kept + k + 1) ring) - 1) (take (kept + k + 1) ring)))
-    (same : length x ≡ length (take (kept + k + 1) ring)) where
-  pub all-again : take (kept + (k + 1)) (x ++ drop (kept + k + 1) ring) ≡ insertAll i (take (k + 1) src) (take kept ring₀)
-  all-again =
-      let e : length (take (kept + k + 1) ring) ≡ kept + k + 1 = length-take-le (kept + k + 1) ring (omega arith) in
-      let f : length (take (kept + k + 1) ring) - 1 ≡ kept + k = omega arith in
-      let g : length (take kept ring₀) ≡ kept = length-take-le kept ring₀ (omega arith) in
-      front-back ring x (kept + k + 1) (kept + (k + 1)) (omega arith) (omega arith) same
-      ∙ wrote
-      ∙ ap (λ (n : ℕ). insertAt (i + k) (getD src k 0) (take n (take (kept + k + 1) ring))) f
-      ∙ ap (insertAt (i + k) (getD src k 0)) (take-take (kept + k) (kept + k + 1) ring (omega arith) ∙ inv)
-      ∙ insert-more i k src (take kept ring₀) (omega arith) more
+module _ (l₀ : List ℕ) (gap : ℕ) where
+  pub room-start : l₀ ≡ take (length l₀) l₀ ++ drop (length l₀ - gap) (take (length l₀ - gap) l₀)
+  room-start =
+      sym (ap₂ _++_ (take-length l₀) (drop-of-length-le (take (length l₀ - gap) l₀) {i = length l₀ - gap} (omega (arith, length-take (length l₀ - gap) l₀))) ∙ append-nil l₀)
 
-pub all-end : (ring₀ ring src : List ℕ) (i kept k : ℕ) → length ring ≡ length ring₀ → kept + length src ≡ length ring₀ → k ≡ length src
-    → take (kept + k) ring ≡ insertAll i (take k src) (take kept ring₀) → ring ≡ insertAll i src (take kept ring₀)
-all-end ring₀ ring src i kept k long room done inv =
-    sym (take-all (kept + k) ring (omega arith)) ∙ inv ∙ ap (λ (s : List ℕ). insertAll i s (take kept ring₀)) (take-all k src (omega arith))
+  -- one more corner is moved up, to place k - 1
+  pub room-step : (l : List ℕ) (k : ℕ) → 0 < gap → gap < k → k ≤ length l₀ → l ≡ take k l₀ ++ drop (k - gap) (take (length l₀ - gap) l₀)
+      → set l (k - 1) (getD l (k - 1 - gap) 0) ≡ take (k - 1) l₀ ++ drop (k - 1 - gap) (take (length l₀ - gap) l₀)
+  room-step l k some low fits inv =
+      let m : ℕ = k - 1 in
+      let r : List ℕ = take (length l₀ - gap) l₀ in
+      let size : length (take m l₀) ≡ m = length-take-le m l₀ (omega arith) in
+      let next : suc m ≡ k = omega arith in
+      let up : suc (m - gap) ≡ k - gap = omega arith in
+      let one : take k l₀ ≡ take m l₀ ++ (getD l₀ m 0 ∷ []) = ap (λ (i : ℕ). take i l₀) (sym next) ∙ take-suc l₀ m 0 (omega arith) in
+      let whole : l ≡ take m l₀ ++ getD l₀ m 0 ∷ drop (k - gap) r = inv ∙ ap (λ (p : List ℕ). p ++ drop (k - gap) r) one ∙ append-snoc (take m l₀) (getD l₀ m 0) (drop (k - gap) r) in
+      let v : getD l (m - gap) 0 ≡ getD r (m - gap) 0 =
+      ap (λ (p : List ℕ). getD p (m - gap) 0) whole
+      ∙ List·getD-append (take m l₀) (getD l₀ m 0 ∷ drop (k - gap) r) 0 (m - gap) (omega arith)
+      ∙ getD-take m l₀ (m - gap) 0 (omega arith)
+      ∙ sym (getD-take (length l₀ - gap) l₀ (m - gap) 0 (omega arith)) in
+      ap₂ (λ (p : List ℕ) (x : ℕ). set p m x) whole v
+      ∙ set-at (take m l₀) (getD l₀ m 0) (drop (k - gap) r) (getD r (m - gap) 0) m size
+      ∙ ap (λ (p : List ℕ). take m l₀ ++ p)
+      (ap (λ (i : ℕ). getD r (m - gap) 0 ∷ drop i r) (sym up) ∙ sym (drop-cons r (m - gap) 0 (omega (arith, length-take-le (length l₀ - gap) l₀ (omega arith)))))
 
-as-splice : (r hole : List ℕ) (t b : ℕ) → insertAll (t + 1) (drop b hole ++ take (b + 1) hole ++ (getD r t 0 ∷ [])) r ≡ splice r hole t b
-unfolding insertAll splice
-as-splice r hole t b = simp append-assoc
+  pub room-end : (l : List ℕ) (k t : ℕ) → k ≡ t + gap → l ≡ take k l₀ ++ drop (k - gap) (take (length l₀ - gap) l₀) → l ≡ take (t + gap) l₀ ++ drop t (take (length l₀ - gap) l₀)
+  room-end l k t e inv =
+      let low : k - gap ≡ t = omega arith in
+      inv ∙ ap₂ (λ (i j : ℕ). take i l₀ ++ drop j (take (length l₀ - gap) l₀)) e low
 
-module _ (ring hole x y z : List ℕ) (t b : ℕ) (fits : t + length hole + 2 < length ring) (low : b < length hole)
-    (one : x ≡ insertAll (t + 1) (midOf b (length hole - b) hole) (take (length (take (length ring - (b + 2)) ring) - length (midOf b (length hole - b) hole)) (take (length ring - (b + 2)) ring)))
-    (same : length x ≡ length (take (length ring - (b + 2)) ring)) where
-  first-done : x ≡ insertAll (t + 1) (drop b hole) (take (length ring - (length hole + 2)) ring)
-  first-done =
-      let e : length (take (length ring - (b + 2)) ring) ≡ length ring - (b + 2) = length-take-le (length ring - (b + 2)) ring (omega arith) in
-      let f : length (take (length ring - (b + 2)) ring) - length (midOf b (length hole - b) hole) ≡ length ring - (length hole + 2) =
-      omega (arith, ap length (mid-tail b hole), length-drop b hole) in
-      one
-      ∙ ap₂ (insertAll (t + 1)) (mid-tail b hole)
-      (ap (λ (n : ℕ). take n (take (length ring - (b + 2)) ring)) f ∙ take-take (length ring - (length hole + 2)) (length ring - (b + 2)) ring (omega arith))
+-- the hole's corners in the order in which they are written
+unfoldable pub way : List ℕ → ℕ → List ℕ
+way hole b = drop b hole ++ take (b + 1) hole
 
-  second : List ℕ
-  second = x ++ drop (length ring - (b + 2)) ring
+module _ (hole : List ℕ) (b : ℕ) (low : b < length hole) where
+  way-size : length (way hole b) ≡ length hole + 1
+  unfolding way
+  way-size = omega (arith, length-append (drop b hole) (take (b + 1) hole), length-drop b hole, length-take-le (b + 1) hole (omega arith))
 
-  pub second-long : length (x ++ drop (length ring - (b + 2)) ring) ≡ length ring
-  second-long = length-front ring x (length ring - (b + 2)) same
+  way-at : (k : ℕ) → k ≤ length hole → getD (way hole b) k 0 ≡ getD hole ((b + k) % length hole) 0
+  unfolding way
+  way-at k h = go (ltb k (length hole - b)) refl
+    where
+      size : length (drop b hole) ≡ length hole - b
+      size = length-drop b hole
 
-  module _ (two : y ≡ insertAll (t + 1 + (length hole - b)) (take (b + 1) hole)
-      (take (length (take (length ring - 1) (x ++ drop (length ring - (b + 2)) ring)) - length (take (b + 1) hole)) (take (length ring - 1) (x ++ drop (length ring - (b + 2)) ring))))
-      (same2 : length y ≡ length (take (length ring - 1) (x ++ drop (length ring - (b + 2)) ring)))
-      (three : z ≡ insertAt (t + length hole + 2) (getD ring t 0)
-      (take (length (y ++ drop (length ring - 1) (x ++ drop (length ring - (b + 2)) ring)) - 1) (y ++ drop (length ring - 1) (x ++ drop (length ring - (b + 2)) ring)))) where
-    second-done : y ≡ insertAll (t + 1 + (length hole - b)) (take (b + 1) hole) x
-    unfolding second
-    second-done =
-        let e : length (take (length ring - 1) second) ≡ length ring - 1 = length-take-le (length ring - 1) second (omega (arith, second-long)) in
-        let f : length (take (length ring - 1) second) - length (take (b + 1) hole) ≡ length ring - (b + 2) = omega (arith, length-take-le (b + 1) hole (omega arith)) in
-        two
-        ∙ ap (insertAll (t + 1 + (length hole - b)) (take (b + 1) hole))
-        (ap (λ (n : ℕ). take n (take (length ring - 1) second)) f
-        ∙ take-take (length ring - (b + 2)) (length ring - 1) second (omega arith)
-        ∙ front-back ring x (length ring - (b + 2)) (length ring - (b + 2)) refl (omega arith) same)
+      go : (first : Bool) → ltb k (length hole - b) ≡ first → getD (drop b hole ++ take (b + 1) hole) k 0 ≡ getD hole ((b + k) % length hole) 0
+      go true e =
+          let in-first : k < length hole - b = ltb-true _ _ e in
+          List·getD-append (drop b hole) (take (b + 1) hole) 0 k (omega (arith, size))
+          ∙ getD-drop b hole k 0
+          ∙ ap (λ (i : ℕ). getD hole i 0) (sym (mod-eq-of-lt (omega (arith, in-first))))
+      go false e =
+          let past : length hole - b ≤ k = ltb-false _ _ e in
+          let i : ℕ = b + k - length hole in
+          let at : length (drop b hole) + i ≡ k = omega (arith, size) in
+          ap (λ (n : ℕ). getD (drop b hole ++ take (b + 1) hole) n 0) (sym at)
+          ∙ getD-append-add (drop b hole) (take (b + 1) hole) i 0
+          ∙ getD-take (b + 1) hole i 0 (omega arith)
+          ∙ ap (λ (n : ℕ). getD hole n 0) (sym (mod-eq-sub-mod (omega arith) ∙ mod-eq-of-lt (omega arith)))
 
-    third-done : z ≡ insertAt (t + length hole + 2) (getD ring t 0) y
-    unfolding second
-    third-done =
-        let e : length (y ++ drop (length ring - 1) second) ≡ length second = length-front second y (length ring - 1) same2 in
-        three
-        ∙ ap (insertAt (t + length hole + 2) (getD ring t 0))
-        (front-back second y (length ring - 1) (length (y ++ drop (length ring - 1) second) - 1) (omega (arith, second-long)) (omega (arith, second-long)) same2)
+  -- one more corner is written
+  pub write-next : (l₁ l : List ℕ) (t k : ℕ) → t + 1 + k < length l₁ → k ≤ length hole → l ≡ paste l₁ (t + 1) (way hole b) k
+      → set l (t + 1 + k) (getD hole ((b + k) % length hole) 0) ≡ paste l₁ (t + 1) (way hole b) (k + 1)
+  write-next l₁ l t k fits h inv =
+      ap₂ (λ (p : List ℕ) (x : ℕ). set p (t + 1 + k) x) inv (sym (way-at k h))
+      ∙ paste-suc l₁ (t + 1) (way hole b) k 0 fits (omega (arith, way-size))
+      ∙ ap (paste l₁ (t + 1) (way hole b)) (sym (add-one k))
 
-    pub splice-done : z ≡ splice (take (length ring - (length hole + 2)) ring) hole t b
-    splice-done =
-        let r : List ℕ = take (length ring - (length hole + 2)) ring in
-        let v : ℕ = getD ring t 0 in
-        let r-long : length r ≡ length ring - (length hole + 2) = length-take-le (length ring - (length hole + 2)) ring (omega arith) in
-        let a-long : length (drop b hole) ≡ length hole - b = length-drop b hole in
-        let c-long : length (take (b + 1) hole) ≡ b + 1 = length-take-le (b + 1) hole (omega arith) in
-        let i-ok : t + 1 ≤ length r = omega arith in
-        let ab : List ℕ = drop b hole ++ take (b + 1) hole in
-        let ab-long : t + 1 + length ab ≡ t + length hole + 2 = omega (arith, length-append (drop b hole) (take (b + 1) hole)) in
-        let y-is : y ≡ insertAll (t + 1) ab r =
-        second-done
-        ∙ ap₂ (λ (n : ℕ) (w : List ℕ). insertAll (t + 1 + n) (take (b + 1) hole) w) (sym a-long) first-done
-        ∙ insert-behind (t + 1) (drop b hole) r i-ok (take (b + 1) hole) in
-        third-done
-        ∙ insert-single (t + length hole + 2) v y
-        ∙ ap₂ (λ (n : ℕ) (w : List ℕ). insertAll n (v ∷ []) w) (sym ab-long) y-is
-        ∙ insert-behind (t + 1) ab r i-ok (v ∷ [])
-        ∙ ap (λ (u : ℕ). insertAll (t + 1) (drop b hole ++ take (b + 1) hole ++ (u ∷ [])) r) (sym (getD-take (length ring - (length hole + 2)) ring t 0 (omega arith)))
-        ∙ as-splice r hole t b
+  module _ (l₀ l₁ : List ℕ) (t : ℕ) (fits : t + length hole + 2 < length l₀)
+      (moved : l₁ ≡ take (t + (length hole + 2)) l₀ ++ drop t (take (length l₀ - (length hole + 2)) l₀)) where
+    head-size : length (take (t + (length hole + 2)) l₀) ≡ t + (length hole + 2)
+    head-size = length-take-le (t + (length hole + 2)) l₀ (omega arith)
+
+    pub splice-end : (l : List ℕ) (k : ℕ) → k ≡ length hole + 1 → l ≡ paste l₁ (t + 1) (way hole b) k → l ≡ splice (take (length l₀ - (length hole + 2)) l₀) hole t b
+    unfolding splice way
+    splice-end l k done inv =
+        let r : List ℕ = take (length l₀ - (length hole + 2)) l₀ in
+        let behind : t + 1 + k ≡ t + (length hole + 2) = omega arith in
+        let front : take (t + 1) l₁ ≡ take (t + 1) r =
+        ap (take (t + 1)) moved
+        ∙ take-append-le (t + 1) (take (t + (length hole + 2)) l₀) (drop t r) (omega (arith, head-size))
+        ∙ take-take (t + 1) (t + (length hole + 2)) l₀ (omega arith)
+        ∙ sym (take-take (t + 1) (length l₀ - (length hole + 2)) l₀ (omega arith)) in
+        let back : drop (t + 1 + k) l₁ ≡ getD r t 0 ∷ drop (t + 1) r =
+        ap₂ drop behind moved
+        ∙ drop-at (take (t + (length hole + 2)) l₀) (drop t r) (t + (length hole + 2)) head-size
+        ∙ drop-cons r t 0 (omega (arith, length-take-le (length l₀ - (length hole + 2)) l₀ (omega arith)))
+        ∙ ap (λ (i : ℕ). getD r t 0 ∷ drop i r) (sym (add-one t)) in
+        let all : take k (way hole b) ≡ way hole b = take-all k (way hole b) (omega (arith, way-size)) in
+        inv
+        ∙ ap₂ _++_ (ap₂ _++_ front all) back
+        ∙ simp append-assoc

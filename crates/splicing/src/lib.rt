@@ -1,9 +1,10 @@
 // A hole put into a ring, in place.
 ghost use mathlib.Core.Path.{_≡_};
+ghost use mathlib.Core.List.{_++_};
 ghost use Prim.Native.Nat.{_+_, _-_, _<_, _≤_};
-ghost use lib.ListN.{length, take};
+ghost use lib.ListN.{length, take, drop};
 ghost use Rattle.lid.specs.Bridges.{splice};
-ghost use Rattle.lid.specs.Steps.{insertAt, insertAll};
+ghost use Rattle.lid.specs.Steps.{insertAt};
 use lid::RingPlace;
 
 // Inserts v at a place: those from there on move up, over the last place.
@@ -23,18 +24,16 @@ pub fn insert(ring: &mut [u32], at: RingPlace, v: u32)
     ring[last] = carry;
 }
 
-// Inserts the corners of src at a place, over as many last places.
-fn insert_all(ring: &mut [u32], at: RingPlace, src: &[u32])
-    requires { ⌜ at .0 + length (now src) ≤ length (now ring) ⌝ }
-    ensures { λ _. ⌜ now (ring .exit) ≡ insertAll (at .0) (now (src .entry)) (take (length (now (ring .entry)) - length (now (src .entry))) (now (ring .entry))) ⌝ }
+// Moves the corners from place t on up by `gap` places, over as many last places.
+fn make_room(ring: &mut [u32], t: usize, gap: usize)
+    requires { ⌜ (0 < gap) × (t + gap ≤ length (now ring)) ⌝ }
+    ensures { λ _. ⌜ now (ring .exit) ≡ take (t + gap) (now (ring .entry)) ++ drop t (take (length (now (ring .entry)) - gap) (now (ring .entry))) ⌝ }
 {
-    let i = at.0;
-    let kept = ring.len() - src.len();
-    let mut k = 0;
-    while k < src.len() {
-        let e = kept + k + 1;
-        insert(&mut ring[..e], RingPlace(i + k), src[k]);
-        k += 1;
+    let end = t + gap;
+    let mut k = ring.len();
+    while k > end {
+        k -= 1;
+        ring[k] = ring[k - gap];
     }
 }
 
@@ -47,11 +46,10 @@ pub fn splice(ring: &mut [u32], at: RingPlace, hole: &[u32], j: RingPlace)
     let t = at.0;
     let b = j.0;
     let h = hole.len();
-    let v = ring[t];
-    let e = ring.len() - (b + 2);
-    let f = ring.len() - 1;
-    let c = b + 1;
-    insert_all(&mut ring[..e], RingPlace(t + 1), &hole[b..]);
-    insert_all(&mut ring[..f], RingPlace(t + 1 + (h - b)), &hole[..c]);
-    insert(ring, RingPlace(t + h + 2), v);
+    make_room(ring, t, h + 2);
+    let mut k = 0;
+    while k <= h {
+        ring[t + 1 + k] = hole[(b + k) % h];
+        k += 1;
+    }
 }

@@ -1,46 +1,49 @@
 -- `splicing::splice` meets its contract. Assumes nothing.
 use mathlib.Core.List.{_++_}
-use mathlib.Core.Path.{sym, ap}
-use Prim.Native.Nat.{_+_, _-_}
+use mathlib.Core.Path.{_≡_, refl, _∙_}
+use Prim.Native.Nat.{_≤_, _+_, _-_, _%_}
+use native.Mathlib.Nat.{mod-lt}
+use native.Mathlib.Numerals.{add-one}
 use native.Mathlib.Omega.{arith}
-use lib.ListN.{length, drop, length-drop}
-use lib.Seq.{length-take-le, length-front}
-use borrow.Author.Needs.{needs}
-use Rattle.splicing.proofs.SpliceLaws.{mid-tail, splice-done}
+use lib.ListN.{length, length-set}
+use lib.Seq.{paste, paste-zero}
+use Rattle.splicing.proofs.SpliceLaws.{way, write-next, splice-end}
 use Rattle.splicing.proofs.splice.Statement.{statement}
 use Rattle.splicing.proofs.splice.Tie as tie
 use denote.Ref.{now}
 
-slice-aggregate-insert-all : tie.Need-slice-aggregate-insert-all
-slice-aggregate-insert-all c = sym (length-take-le _ _ (omega arith))
+abbrev Inv-loop : tie.InvT-loop
+Inv-loop ring₀ hole t b h k₀ ring k = (length ring ≡ length ring₀) × (k ≤ h + 1) × (ring ≡ paste ring₀ (t + 1) (way hole b) k)
 
-insert-all-requires : tie.Need-insert-all-requires
-insert-all-requires c κs =
-    let a = c .before .before .before .before .before .args in
-    omega (arith, length-take-le (length (now (a .ring)) - (a .j .0 + 2)) (now (a .ring)) (omega arith), ap length (mid-tail (a .j .0) (now (a .hole))), length-drop (a .j .0) (now (a .hole)))
+abbrev μ-loop : tie.MeasureT-loop
+μ-loop ring₀ hole t b h k₀ ring k = h + 1 - k
 
-slice-aggregate-insert-all-2 : tie.Need-slice-aggregate-insert-all-2
-slice-aggregate-insert-all-2 c =
+loop-holds : tie.Need-loop-holds Inv-loop μ-loop
+loop-holds c = (refl, omega arith, paste-zero (c .before .before .make-room .last .0) (c .before .before .before .before .before .before .args .at .0 + 1) (way (now (c .before .before .before .before .before .before .args .hole)) (c .before .before .before .before .before .before .args .j .0)))
+
+mul-ring : tie.Need-mul-ring Inv-loop μ-loop
+mul-ring c = let a = c .before .before .before .before .before .before .before .before .args in omega (arith, mod-lt (a .j .0 + c .before .loop .k) {m = length (now (a .hole))} (omega arith))
+
+shared-slice-read-ring : tie.Need-shared-slice-read-ring Inv-loop μ-loop
+shared-slice-read-ring c = mod-lt _ (omega arith)
+
+loop-again : tie.Need-loop-again Inv-loop μ-loop
+loop-again c =
     let a = c .before .before .before .before .before .before .before .before .before .args in
-    sym (length-take-le _ _ (omega (arith, length-front (now (a .ring)) (c .before .before .before .insert-all .last .0) (length (now (a .ring)) - (a .j .0 + 2)) (c .before .before .before .insert-all .kept .0))))
+    let l = c .before .before .loop in
+    (simp length-set (l .inv .0), omega arith, write-next (now (a .hole)) (a .j .0) (c .before .before .before .before .before .before .before .before .before .pre .1) (c .before .before .before .before .before .make-room .last .0) (l .ring) (a .at .0) (l .k) (omega arith) (omega arith) (l .inv .2))
 
-slice-aggregate-insert-all-3 : tie.Need-slice-aggregate-insert-all-3
-slice-aggregate-insert-all-3 c = sym (length-take-le _ _ (omega arith))
+same-length : tie.Need-same-length Inv-loop μ-loop
+same-length c = c .before .loop .inv .0 ∙ c .before .before .before .before .make-room .kept .0
 
-insert-all-requires-2 : tie.Need-insert-all-requires-2
-insert-all-requires-2 c κs =
-    let a = c .before .before .before .before .before .before .before .before .before .before .args in
-    omega (arith, length-take-le (a .j .0 + 1) (now (a .hole)) (omega arith), length-take-le (length (now (a .ring)) - 1) (c .before .before .before .before .insert-all .last .0 ++ drop (length (now (a .ring)) - (a .j .0 + 2)) (now (a .ring))) (omega (arith, length-front (now (a .ring)) (c .before .before .before .before .insert-all .last .0) (length (now (a .ring)) - (a .j .0 + 2)) (c .before .before .before .before .insert-all .kept .0))))
-
-returns : tie.Need-returns
+returns : tie.Need-returns Inv-loop μ-loop
 returns c =
-    let a = c .before .before .before .before .before .before .before .before .before .before .before .before .before .before .before .before .before .args in
-    splice-done (now (a .ring)) (now (a .hole)) (c .before .before .before .before .before .before .before .before .before .before .before .insert-all .last .0) (c .before .before .before .before .before .before .insert-all2 .last .0) (c .before .before .insert .last .0) (a .at .0) (a .j .0) (c .before .before .before .before .before .before .before .before .before .before .before .before .before .before .before .before .before .pre .0) (c .before .before .before .before .before .before .before .before .before .before .before .before .before .before .before .before .before .pre .1) (c .before .before .before .before .before .before .before .before .before .before .before .insert-all .ensures) (c .before .before .before .before .before .before .before .before .before .before .before .insert-all .kept .0) (c .before .before .before .before .before .before .insert-all2 .ensures) (c .before .before .before .before .before .before .insert-all2 .kept .0) (c .before .before .insert .ensures)
+    let a = c .before .before .before .before .before .before .before .before .args in
+    let l = c .before .loop in
+    splice-end (now (a .hole)) (a .j .0) (c .before .before .before .before .before .before .before .before .pre .1) (now (a .ring)) (c .before .before .before .before .make-room .last .0) (a .at .0) (c .before .before .before .before .before .before .before .before .pre .0) (c .before .before .before .before .make-room .ensures) (l .ring) (l .k) (omega arith) (l .inv .2)
 
 pub splice-spec : {M : Type 1} → statement M
 splice-spec =
     tie.close
-    (tie.spec (λ c. search needs) (λ c. search needs) (λ c. search needs) (λ c. search needs) (λ c. search needs) (λ c. search needs)
-    (λ c. search needs) slice-aggregate-insert-all (λ c. search needs) (λ c. search needs) (λ c. search needs) (λ c. search needs) (λ c. search needs)
-    insert-all-requires (λ c. search needs) slice-aggregate-insert-all-2 (λ c. search needs) (λ c. search needs) (λ c. search needs)
-    slice-aggregate-insert-all-3 insert-all-requires-2 (λ c. search needs) (λ c. search needs) (λ c κs. search needs) (λ c. search needs) returns)
+    (tie.spec Inv-loop μ-loop (λ c. omega arith) (λ c κs. (omega arith, omega arith)) loop-holds (λ c. omega arith) (λ c. omega arith) mul-ring shared-slice-read-ring
+    (λ c. omega arith) (λ c. omega arith) (λ c. omega arith) (λ c. omega arith) (λ c. omega arith) (λ c. omega arith) loop-again same-length returns)
