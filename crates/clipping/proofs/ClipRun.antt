@@ -61,6 +61,14 @@ at-most-one : (b : Bool) (t : Triangle) → length (cond b (t ∷ []) []) ≤ 1
 at-most-one true t = omega arith
 at-most-one false t = omega arith
 
+-- ---- the places left have room in the ring's buffer and in the notes'
+
+pub ring-room : {left ring ring₀ : ℕ} → ring ≡ ring₀ → left ≤ ring₀ → left ≤ ring
+ring-room long fewer = omega arith
+
+pub why-room : {left ring₀ why why₁ why₀ : ℕ} → why₁ ≡ why₀ → why ≡ why₁ → left ≤ ring₀ → ring₀ ≤ why₀ → left ≤ why
+why-room kept long fewer fits = omega arith
+
 -- ---- the loop of `clip`: what is left to do ends as the whole was to end
 
 pub record Clipping (fs : List Flat) (ring₀ log₀ : List ℕ) (n : ℕ) (triangles₀ ring log triangles : List ℕ) (left entries count : ℕ) : Type 0 where

@@ -68,33 +68,9 @@ fn clip_step(us: &[f32], vs: &[f32], ring: &[u32], why: &mut [u32]) -> Step
     }
 }
 
-// Cuts off the corner at a place: its entry goes to the log, an ear's triangle to the triangles, and the corner out of the ring. The
-// result is how many triangles there then are.
+// Cuts off the corner at a place: the notes that it changes are forgotten, its entry goes to the log, an ear's triangle to the triangles, and
+// the corner out of the ring. The result is how many triangles there then are.
 fn cut(
-    ring: &mut [u32],
-    log: &mut [u32],
-    n: u32,
-    triangles: &mut [u32],
-    count: u32,
-    mark: u32,
-    at: RingPlace,
-) -> u32
-    requires { ⌜ at .0 < length (now ring) ⌝ }
-    requires { ⌜ count + 1 < 2 ^ 32 ⌝ }
-    ensures { λ r. ⌜ Cuts mark (now (ring .entry)) (at .0) (now (ring .exit)) (now (log .entry)) (now (log .exit)) n (now (triangles .entry)) (now (triangles .exit)) count r ⌝ }
-{
-    let t = corners_at(ring, at);
-    put_entry(log, n, mark, t.a.0, t.b.0, t.c.0);
-    remove(ring, at);
-    if mark == 1 {
-        put_triangle(triangles, count, t.a.0, t.b.0, t.c.0);
-        return count + 1;
-    }
-    count
-}
-
-// Cuts off the corner at a place, as `cut`, and forgets the notes that it changes.
-fn cut_noted(
     ring: &mut [u32],
     why: &mut [u32],
     log: &mut [u32],
@@ -111,7 +87,14 @@ fn cut_noted(
     ensures { λ _. ⌜ Forgot (now (ring .entry)) (at .0) (now (why .entry)) (now (why .exit)) ⌝ }
 {
     forget(ring, why, at);
-    cut(ring, log, n, triangles, count, mark, at)
+    let t = corners_at(ring, at);
+    put_entry(log, n, mark, t.a.0, t.b.0, t.c.0);
+    remove(ring, at);
+    if mark == 1 {
+        put_triangle(triangles, count, t.a.0, t.b.0, t.c.0);
+        return count + 1;
+    }
+    count
 }
 
 // Clips a ring, with room for a note per place. Its entries go to the log from entry n on, and the ears to the triangles from the first; the
@@ -141,7 +124,7 @@ pub fn clip(
                 triangles: count,
             };
         };
-        count = cut_noted(
+        count = cut(
             &mut ring[..left],
             &mut why[..left],
             log,
