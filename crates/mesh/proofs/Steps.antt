@@ -1,95 +1,69 @@
 -- The triangles' verdict, one triangle at a time. Assumes nothing.
 use mathlib.Core.Path.{_≡_, refl, sym, ap, _∙_}
-use Prim.Native.Nat.{ℕ, zero, suc, _+_, _-_, _*_, _/_, _≤_, _<_}
+use Prim.Native.Nat.{ℕ, suc, _+_, _≤_, _<_}
 use native.Mathlib.Numerals.{add-one}
-use native.Mathlib.Nat.{le-of-eq}
 use native.Mathlib.Omega.{arith}
-use mathlib.Core.Bool.{Bool, true, false, cond}
+use mathlib.Core.Bool.{Bool, true, false, cond, _||_}
 use mathlib.Core.List.{List, [], _∷_}
-use lib.ListN.{length, getD, drop, drop-of-length-le}
-use lib.Seq.{drop-cons}
-use lib.Dec.{leb}
-use borrow.Author.Tests.{le-leb, lt-leb}
+use lib.ListN.{getD, drop, length, drop-of-length-le}
+use lib.Dec.{leb, eqb}
+use lib.Seq.{drop-cons, getD-drop, drop-drop}
+use borrow.Author.Tests.{eq-eqb}
 use lib.Ieee.{Float}
 use Rattle.coords.specs.declared.Point.{Point}
-use Rattle.coords.specs.Buffers.{verticesIn}
+use Rattle.coords.specs.Coords.{noArea, origin}
 use Rattle.mesh.specs.declared.Verdict.{Verdict}
 use Rattle.mesh.specs.declared.Verdict.the-variants.{Ok, IndexOutOfRange, DegenerateTriangle}
-use Rattle.mesh.specs.Validate.{degenerate, trianglesFrom}
-use Rattle.buffers.proofs.Vertices.{length-vertices}
+use Rattle.mesh.specs.Validate.{degenerate, triangleAt, trianglesFrom, orLater}
 
-module _ (limit : Float) (vs : List Point) (t : ℕ) where
-  bad-1 : (a : ℕ) (rest : List ℕ) → leb (length vs) a ≡ true → trianglesFrom limit vs t (a ∷ rest) ≡ IndexOutOfRange t a (length vs)
-  unfolding trianglesFrom
-  bad-1 a [] e = rw e
-  bad-1 a (b ∷ []) e = rw e
-  bad-1 a (b ∷ c ∷ rest) e = rw e
+-- a triangle of one index, of two and of three, by its tests
+one : (t n a : ℕ) (later : Verdict) (p : Bool) → cond p (IndexOutOfRange t a n) (DegenerateTriangle t) ≡ orLater (cond p (IndexOutOfRange t a n) (cond p (IndexOutOfRange t a n) (cond p (IndexOutOfRange t a n) (DegenerateTriangle t)))) later
+unfolding orLater
+one t n a later true = refl
+one t n a later false = refl
 
-  bad-2 : (a b : ℕ) (rest : List ℕ) → leb (length vs) a ≡ false → leb (length vs) b ≡ true → trianglesFrom limit vs t (a ∷ b ∷ rest) ≡ IndexOutOfRange t b (length vs)
-  unfolding trianglesFrom
-  bad-2 a b [] d e = rw (d, e)
-  bad-2 a b (c ∷ rest) d e = rw (d, e)
+two : (t n a b : ℕ) (later : Verdict) (p q : Bool) → cond p (IndexOutOfRange t a n) (cond q (IndexOutOfRange t b n) (DegenerateTriangle t)) ≡ orLater (cond p (IndexOutOfRange t a n) (cond q (IndexOutOfRange t b n) (cond q (IndexOutOfRange t b n) (DegenerateTriangle t)))) later
+unfolding orLater
+two t n a b later true q = refl
+two t n a b later false true = refl
+two t n a b later false false = refl
 
--- The verdict on triangle t, whose indices stand from place i on, by what the program tests.
-module _ (limit : Float) (xs : List Float) (is : List ℕ) (t i : ℕ) where
-  abbrev a : ℕ
-  a = getD is i 0
+three : (t n a b c : ℕ) (later : Verdict) (p q r d : Bool) → cond p (IndexOutOfRange t a n) (cond q (IndexOutOfRange t b n) (cond r (IndexOutOfRange t c n) (cond d (DegenerateTriangle t) later))) ≡ orLater (cond p (IndexOutOfRange t a n) (cond q (IndexOutOfRange t b n) (cond r (IndexOutOfRange t c n) (cond d (DegenerateTriangle t) Ok)))) later
+unfolding orLater
+three t n a b c later true q r d = refl
+three t n a b c later false true r d = refl
+three t n a b c later false false true d = refl
+three t n a b c later false false false true = refl
+three t n a b c later false false false false = refl
 
-  abbrev b : ℕ
-  b = getD is (i + 1) 0
+module _ (limit : Float) (vs : List Point) where
+  repeated : (a b : ℕ) → degenerate limit vs a b b ≡ true
+  unfolding degenerate
+  repeated a b = rw (eq-eqb b b refl) (second (eqb a b) (eqb a b) (noArea limit (getD vs a origin) (getD vs b origin) (getD vs b origin)))
+    where
+      second : (x y z : Bool) → x || true || y || z ≡ true
+      second true y z = refl
+      second false y z = refl
 
-  abbrev c : ℕ
-  c = getD is (i + 2) 0
+  -- an index that is missing counts as the one before it
+  step : (t a : ℕ) (l : List ℕ) → trianglesFrom limit vs t (a ∷ l) ≡ orLater (triangleAt limit vs t a (getD l 0 a) (getD l 1 (getD l 0 a))) (trianglesFrom limit vs (suc t) (drop 2 l))
+  unfolding trianglesFrom triangleAt
+  step t a [] = rw (repeated a a) (one t (length vs) a Ok (leb (length vs) a))
+  step t a (b ∷ []) = rw (repeated a b) (two t (length vs) a b Ok (leb (length vs) a) (leb (length vs) b))
+  step t a (b ∷ c ∷ l) = three t (length vs) a b c (trianglesFrom limit vs (suc t) l) (leb (length vs) a) (leb (length vs) b) (leb (length vs) c) (degenerate limit vs a b c)
 
-  abbrev n : ℕ
-  n = length xs / 3
+  module _ (t : ℕ) (is : List ℕ) (i : ℕ) where
+    pub next : {a b c : ℕ} {v : Verdict} → i < length is → a ≡ getD is i 0 → b ≡ getD is (i + 1) a → c ≡ getD is (i + 2) b → v ≡ triangleAt limit vs t a b c → trianglesFrom limit vs t (drop i is) ≡ orLater v (trianglesFrom limit vs (t + 1) (drop (i + 3) is))
+    next {a} {b} {c} h p q r s =
+        let l = drop (suc i) is in
+        let e₁ : suc i + 0 ≡ i + 1 = omega arith in
+        let e₂ : suc i + 1 ≡ i + 2 = omega arith in
+        let e₃ : suc i + 2 ≡ i + 3 = omega arith in
+        let b' : getD l 0 a ≡ b = getD-drop (suc i) is 0 a ∙ ap (λ (m : ℕ). getD is m a) e₁ ∙ sym q in
+        let c' : getD l 1 b ≡ c = getD-drop (suc i) is 1 b ∙ ap (λ (m : ℕ). getD is m b) e₂ ∙ sym r in
+        let rest : drop 2 l ≡ drop (i + 3) is = drop-drop 2 (suc i) is ∙ ap (λ (m : ℕ). drop m is) e₃ in
+        ap (trianglesFrom limit vs t) (drop-cons is i 0 h ∙ ap (λ (m : ℕ). m ∷ l) (sym p)) ∙ step t a l ∙ rw (b', c', rest, add-one t, s)
 
-  abbrev from : List ℕ → Verdict
-  from l = trianglesFrom limit (verticesIn xs) t l
-
-  out : (j : ℕ) → n ≤ j → leb (length (verticesIn xs)) j ≡ true
-  out j h = ap (λ (m : ℕ). leb m j) (length-vertices xs) ∙ le-leb n j h
-
-  in' : (j : ℕ) → j < n → leb (length (verticesIn xs)) j ≡ false
-  in' j h = ap (λ (m : ℕ). leb m j) (length-vertices xs) ∙ lt-leb n j h
-
-  next : (j k : ℕ) → j + 1 ≡ k → j < length is → drop j is ≡ getD is j 0 ∷ drop k is
-  next j k e h = drop-cons is j 0 h ∙ ap (λ (m : ℕ). getD is j 0 ∷ drop m is) (sym (add-one j) ∙ e)
-
-  none : (j : ℕ) → j ≡ length is → drop j is ≡ []
-  none j e = drop-of-length-le is (le-of-eq (sym e))
-
-  one : i < length is → drop i is ≡ a ∷ drop (i + 1) is
-  one h = next i (i + 1) refl h
-
-  two : i + 1 < length is → drop i is ≡ a ∷ b ∷ drop (i + 2) is
-  two h = one (omega arith) ∙ ap (λ (l : List ℕ). a ∷ l) (next (i + 1) (i + 2) (omega arith) h)
-
-  three : i + 2 < length is → drop i is ≡ a ∷ b ∷ c ∷ drop (i + 3) is
-  three h = two (omega arith) ∙ ap (λ (l : List ℕ). a ∷ b ∷ l) (next (i + 2) (i + 3) (omega arith) h)
-
-  pub first-out : i < length is → n ≤ a → from (drop i is) ≡ IndexOutOfRange t a n
-  first-out h o = ap from (one h) ∙ bad-1 limit (verticesIn xs) t a (drop (i + 1) is) (out a o) ∙ ap (IndexOutOfRange t a) (length-vertices xs)
-
-  pub only-one : i + 1 ≡ length is → a < n → from (drop i is) ≡ DegenerateTriangle t
-  unfolding trianglesFrom
-  only-one h p = ap from (one (omega arith)) ∙ rw (none (i + 1) h, in' a p)
-
-  pub second-out : i + 1 < length is → a < n → n ≤ b → from (drop i is) ≡ IndexOutOfRange t b n
-  second-out h p o = ap from (two h) ∙ bad-2 limit (verticesIn xs) t a b (drop (i + 2) is) (in' a p) (out b o) ∙ ap (IndexOutOfRange t b) (length-vertices xs)
-
-  pub only-two : i + 2 ≡ length is → a < n → b < n → from (drop i is) ≡ DegenerateTriangle t
-  unfolding trianglesFrom
-  only-two h p q = ap from (two (omega arith)) ∙ rw (none (i + 2) h, in' a p, in' b q)
-
-  pub third-out : i + 2 < length is → a < n → b < n → n ≤ c → from (drop i is) ≡ IndexOutOfRange t c n
-  unfolding trianglesFrom
-  third-out h p q o = ap from (three h) ∙ rw (in' a p, in' b q, out c o) (ap (IndexOutOfRange t c) (length-vertices xs))
-
-  pub whole : i + 2 < length is → a < n → b < n → c < n → from (drop i is) ≡ cond (degenerate limit (verticesIn xs) a b c) (DegenerateTriangle t) (trianglesFrom limit (verticesIn xs) (t + 1) (drop (i + 3) is))
-  unfolding trianglesFrom
-  whole h p q r = ap from (three h) ∙ rw (in' a p, in' b q, in' c r, add-one t)
-
-  pub all-done : length is ≤ i → from (drop i is) ≡ Ok
-  unfolding trianglesFrom
-  all-done h = ap from (drop-of-length-le is h)
+    pub all-done : length is ≤ i → trianglesFrom limit vs t (drop i is) ≡ Ok
+    unfolding trianglesFrom
+    all-done h = ap (trianglesFrom limit vs t) (drop-of-length-le is h)

@@ -34,6 +34,15 @@ trianglesFrom limit vs t (a ∷ b ∷ c ∷ rest) =
     (cond (leb n c) (IndexOutOfRange t c n)
     (cond (degenerate limit vs a b c) (DegenerateTriangle t) later)))
 
+-- the verdict on triangle t, of the vertices numbered a, b and c
+unfoldable pub triangleAt : Float → List Point → ℕ → ℕ → ℕ → ℕ → Verdict
+triangleAt limit vs t a b c =
+    let n = length vs in
+    cond (leb n a) (IndexOutOfRange t a n)
+    (cond (leb n b) (IndexOutOfRange t b n)
+    (cond (leb n c) (IndexOutOfRange t c n)
+    (cond (degenerate limit vs a b c) (DegenerateTriangle t) Ok)))
+
 -- a triangle's verdict, and that of the later ones where it is in order
 unfoldable pub orLater : Verdict → Verdict → Verdict
 orLater Ok later = later

@@ -1,9 +1,8 @@
 // Whether a mesh can back a physics collider, and if not, why: `Mesh::validate` of mesh.rs.
 ghost use mathlib.Core.Path.{_≡_};
-ghost use Prim.Native.Nat.{_+_, _<_};
-ghost use lib.ListN.{length, drop};
+ghost use lib.ListN.{getD};
 ghost use Rattle.coords.specs.Buffers.{verticesIn};
-ghost use Rattle.mesh.specs.Validate.{trianglesFrom, orLater, validateAt, validate, judgement, verdictNumbers, validationNumbers};
+ghost use Rattle.mesh.specs.Validate.{triangleAt, trianglesFrom, validateAt, validate, judgement, verdictNumbers, validationNumbers};
 use faults::degenerate;
 use faults::first_not_finite;
 use lists::Found;
@@ -40,32 +39,22 @@ pub struct Judgement {
     pub count: u64,
 }
 
-// What is wrong with triangle t, whose indices stand from place i on, if anything is.
-fn triangle(limit: f32, vertices: &[f32], indices: &[u32], t: usize, i: usize) -> Verdict
-    requires { ⌜ i < length (now indices) ⌝ }
-    ensures { λ r. ⌜ trianglesFrom limit (verticesIn (now (vertices .entry))) t (drop i (now (indices .entry))) ≡ orLater r (trianglesFrom limit (verticesIn (now (vertices .entry))) (t + 1) (drop (i + 3) (now (indices .entry)))) ⌝ }
+// What is wrong with triangle t, of the vertices numbered a, b and c, if anything is.
+fn triangle(limit: f32, vertices: &[f32], t: usize, a: u32, b: u32, c: u32) -> Verdict
+    ensures { λ r. ⌜ r ≡ triangleAt limit (verticesIn (now (vertices .entry))) t a b c ⌝ }
 {
-    let count = vertices.len() / 3;
-    let a = indices[i];
+    let n = vertices.len() / 3;
     let x = a as usize;
-    if count <= x {
-        return Verdict::IndexOutOfRange(t, a, count);
+    if n <= x {
+        return Verdict::IndexOutOfRange(t, a, n);
     }
-    if i + 1 == indices.len() {
-        return Verdict::DegenerateTriangle(t);
-    }
-    let b = indices[i + 1];
     let y = b as usize;
-    if count <= y {
-        return Verdict::IndexOutOfRange(t, b, count);
+    if n <= y {
+        return Verdict::IndexOutOfRange(t, b, n);
     }
-    if i + 2 == indices.len() {
-        return Verdict::DegenerateTriangle(t);
-    }
-    let c = indices[i + 2];
     let z = c as usize;
-    if count <= z {
-        return Verdict::IndexOutOfRange(t, c, count);
+    if n <= z {
+        return Verdict::IndexOutOfRange(t, c, n);
     }
     if degenerate(limit, vertices, x, y, z) {
         return Verdict::DegenerateTriangle(t);
@@ -73,14 +62,27 @@ fn triangle(limit: f32, vertices: &[f32], indices: &[u32], t: usize, i: usize) -
     Verdict::Ok
 }
 
-// The triangles' verdict, where all vertices are finite.
+fn index_or(indices: &[u32], i: usize, otherwise: u32) -> u32
+    ensures { λ r. ⌜ r ≡ getD (now (indices .entry)) i otherwise ⌝ }
+{
+    if i < indices.len() {
+        return indices[i];
+    }
+    otherwise
+}
+
+// The triangles' verdict, where all vertices are finite. A triangle that lacks a corner repeats the
+// corner before it, and so it is degenerate.
 fn triangles(limit: f32, vertices: &[f32], indices: &[u32]) -> Verdict
     ensures { λ r. ⌜ r ≡ trianglesFrom limit (verticesIn (now (vertices .entry))) 0 (now (indices .entry)) ⌝ }
 {
     let mut t = 0;
     let mut i = 0;
     while i < indices.len() {
-        let v = triangle(limit, vertices, indices, t, i);
+        let a = indices[i];
+        let b = index_or(indices, i + 1, a);
+        let c = index_or(indices, i + 2, b);
+        let v = triangle(limit, vertices, t, a, b, c);
         let Verdict::Ok = v else {
             return v;
         };

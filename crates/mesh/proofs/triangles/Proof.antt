@@ -13,7 +13,7 @@ use Rattle.mesh.specs.Validate.{trianglesFrom, orLater}
 use Rattle.mesh.specs.declared.Verdict.{Verdict}
 use Rattle.mesh.specs.declared.Verdict.the-variants.{Ok, Empty, NonFiniteVertex, IndexOutOfRange, DegenerateTriangle}
 use Rattle.mesh.proofs.Verdict.{the-type}
-use Rattle.mesh.proofs.Steps.{all-done}
+use Rattle.mesh.proofs.Steps.{next, all-done}
 use Rattle.mesh.proofs.triangles.Statement.{statement}
 use Rattle.mesh.proofs.triangles.Tie as tie
 
@@ -36,17 +36,30 @@ settled (NonFiniteVertex i) later h = refl
 settled (IndexOutOfRange t i n) later h = refl
 settled (DegenerateTriangle t) later h = refl
 
+-- the triangle's verdict, or that of the later ones, is the verdict from 0 on
+told : (c : tie.After-triangle Inv-loop μ-loop) →
+    let a = c .before .before .before .before .before .before .before .before .args in
+    let l = c .before .before .before .before .before .loop in
+    orLater (c .triangle .result) (trianglesFrom (a .limit) (verticesIn (a .vertices .now)) (l .t + 1) (drop (l .i + 3) (a .indices .now))) ≡ trianglesFrom (a .limit) (verticesIn (a .vertices .now)) 0 (a .indices .now)
+told c =
+    let a = c .before .before .before .before .before .before .before .before .args in
+    let l = c .before .before .before .before .before .loop in
+    sym (next (a .limit) (verticesIn (a .vertices .now)) (l .t) (a .indices .now) (l .i) (c .before .before .before .before .loop-test .taken) refl (c .before .before .index-or .ensures) (c .before .index-or2 .ensures) (c .triangle .ensures)) ∙ l .inv .2
+
 loop-holds : tie.Need-loop-holds Inv-loop μ-loop
 loop-holds c = (omega arith, omega arith, refl)
 
-triangle-requires : tie.Need-triangle-requires Inv-loop μ-loop
-triangle-requires c κs = omega arith
+add-index-or : tie.Need-add-index-or Inv-loop μ-loop
+add-index-or c = omega arith
+
+add-index-or-2 : tie.Need-add-index-or-2 Inv-loop μ-loop
+add-index-or-2 c = omega arith
 
 enum-told : tie.Need-enum-told Inv-loop μ-loop
 enum-told c = search needs
 
 returns : tie.Need-returns Inv-loop μ-loop
-returns c = sym (settled (c .before .triangle .result) _ (c .match .keys2)) ∙ sym (c .before .triangle .ensures) ∙ c .before .before .before .loop .inv .2
+returns c = sym (settled (c .before .triangle .result) _ (c .match .keys2)) ∙ told (c .before)
 
 add-t : tie.Need-add-t Inv-loop μ-loop
 add-t c = omega arith
@@ -59,12 +72,12 @@ loop-less c = omega arith
 
 loop-again : tie.Need-loop-again Inv-loop μ-loop
 unfolding orLater
-loop-again c = (omega arith, omega arith, sym (rw (c .enum-told .given .1) at (c .before .before .triangle .ensures)) ∙ c .before .before .before .before .loop .inv .2)
+loop-again c = (omega arith, omega arith, rw (c .enum-told .given .1) at (told (c .before .before)))
 
 returns-2 : tie.Need-returns-2 Inv-loop μ-loop
 returns-2 c =
     let a = c .before .before .before .before .args in
-    sym ((all-done (a .limit) (a .vertices .now) (a .indices .now) (c .before .loop .t) (c .before .loop .i) (omega arith))) ∙ c .before .loop .inv .2
+    sym (all-done (a .limit) (verticesIn (a .vertices .now)) (c .before .loop .t) (a .indices .now) (c .before .loop .i) (omega arith)) ∙ c .before .loop .inv .2
 
 pub triangles-spec : {M : Type 1} → statement M
 triangles-spec =
@@ -73,7 +86,13 @@ triangles-spec =
     Inv-loop
     μ-loop
     loop-holds
-    triangle-requires
+    (λ c. omega arith)
+    (λ c. omega arith)
+    add-index-or
+    (λ c κs. tt)
+    add-index-or-2
+    (λ c κs. tt)
+    (λ c κs. tt)
     enum-told
     returns
     add-t
