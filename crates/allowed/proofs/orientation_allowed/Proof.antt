@@ -2,6 +2,7 @@
 use mathlib.Core.Path.{_≡_, refl}
 use mathlib.Core.List.{List}
 use Prim.Native.Nat.{ℕ, _+_, _*_}
+use native.Mathlib.Nat.{add-zero}
 use native.Mathlib.Omega.{arith}
 use mathlib.Core.Bool.{Bool, true, false, _&&_}
 use Rattle.lists.specs.Loops.{every, list}
@@ -26,13 +27,9 @@ three-pairs : (s : List ℕ) (i : ℕ)
     ≡ all64 s 6 i
 unfolding all64 every list
 three-pairs s i =
-    let a : i ≡ i + 8 * 0 = omega arith in
-    let b : i + 8 ≡ i + 8 * 1 = omega arith in
-    let c : i + 16 ≡ i + 8 * 2 = omega arith in
-    let d : i + 16 + 8 ≡ i + 8 * 3 = omega arith in
-    let e : i + 32 ≡ i + 8 * 4 = omega arith in
-    let f : i + 32 + 8 ≡ i + 8 * 5 = omega arith in
-    cc (paired (allowed64 (f64At s i)) (allowed64 (f64At s (i + 8))) (allowed64 (f64At s (i + 16))) (allowed64 (f64At s (i + 16 + 8))) (allowed64 (f64At s (i + 32))) (allowed64 (f64At s (i + 32 + 8))))
+    let d : i + 16 + 8 ≡ i + 24 = omega arith in
+    let f : i + 32 + 8 ≡ i + 40 = omega arith in
+    rw (d, f, add-zero) (paired (allowed64 (f64At s i)) (allowed64 (f64At s (i + 8))) (allowed64 (f64At s (i + 16))) (allowed64 (f64At s (i + 24))) (allowed64 (f64At s (i + 32))) (allowed64 (f64At s (i + 40))))
 
 pair-allowed-requires : tie.Need-pair-allowed-requires
 pair-allowed-requires c κs = search needs
@@ -52,7 +49,7 @@ pair-allowed-requires-3 c κs = search needs
 returns : tie.Need-returns
 returns c =
     let a = c .before .before .before .before .args in
-    cc (three-pairs (a .s .now) (a .i))
+    rw (c .pair-allowed3 .ensures, c .before .pair-allowed2 .ensures, c .before .before .pair-allowed .ensures) (three-pairs (a .s .now) (a .i))
 
 pub orientation-allowed-spec : {M : Type 1} → statement M
 orientation-allowed-spec =

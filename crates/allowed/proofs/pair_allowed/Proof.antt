@@ -21,7 +21,7 @@ is-allowed64-requires-2 c κs = search needs
 
 returns : tie.Need-returns
 unfolding f64At
-returns c = cc
+returns c = rw (c .is-allowed642 .ensures, c .before .u64-in2 .ensures, c .before .before .is-allowed64 .ensures, c .before .before .before .u64-in .ensures)
 
 pub pair-allowed-spec : {M : Type 1} → statement M
 pair-allowed-spec =
