@@ -77,9 +77,6 @@ point-past s i h = point-of s i (f32-past s i h) (f32-past s (i + 4) (further (l
 pub corner-past : (s : List ℕ) (i : ℕ) → length s ≤ i → noCorner ≡ cornerAt s i
 corner-past s i h = corner-of s i (point-past s i h) (point-past s (i + 12) (further (length s) i 12 h))
 
-pub section-past : (s : List ℕ) (i : ℕ) → length s ≤ i → record { left = noCorner; right = noCorner } ≡ sectionAt s i
-section-past s i h = section-of s i (corner-past s i h) (corner-past s (i + 24) (further (length s) i 24 h))
-
 pub pair-past : (s : List ℕ) (i : ℕ) → length s ≤ i → noPair ≡ pairAt s i
 pair-past s i h = pair-of s i (f64-past s i h) (f64-past s (i + 8) (further (length s) i 8 h))
 

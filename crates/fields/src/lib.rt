@@ -2,7 +2,7 @@
 // it does for `getD`, so that the readers ask nothing of their callers.
 ghost use mathlib.Core.Path.{_≡_};
 ghost use Prim.Native.Nat.{_+_, _≤_};
-ghost use lib.ListN.{length, getD};
+ghost use lib.ListN.{length};
 ghost use lib.Ieee.{binary32, ofBits};
 ghost use Rattle.fields.specs.Fields.{u16At, u32At, u64At, f32At, f64At};
 
@@ -48,19 +48,16 @@ pub fn f32_in(s: &[u8], i: usize) -> f32
 
 // ---- anywhere
 
-fn u8_at(s: &[u8], i: usize) -> u8
-    ensures { λ r. ⌜ r ≡ getD (now (s .entry)) i 0 ⌝ }
-{
-    if i < s.len() { s[i] } else { 0 }
-}
-
 pub fn u16_at(s: &[u8], i: usize) -> u16
     ensures { λ r. ⌜ r ≡ u16At (now (s .entry)) i ⌝ }
 {
     if s.len() <= i {
         return 0;
     }
-    (s[i] as u16) + 256 * (u8_at(s, i + 1) as u16)
+    if 2 <= s.len() - i {
+        return u16_in(s, i);
+    }
+    s[i] as u16
 }
 
 pub fn u32_at(s: &[u8], i: usize) -> u32

@@ -1,7 +1,6 @@
 // Points, corners, sections and orientations at a place of the scene's bytes; past the end they are
 // zeros.
 ghost use mathlib.Core.Path.{_≡_};
-ghost use mathlib.Core.Bool.{true};
 ghost use Prim.Native.Nat.{_+_, _≤_};
 ghost use lib.ListN.{length};
 ghost use Rattle.fields.specs.Fields.{pointAt, cornerAt, sectionAt, pairAt, orientationAt};
@@ -13,16 +12,6 @@ use object::Corner;
 use object::Orientation;
 use object::Pair;
 use object::Section;
-
-// Whether n bytes from place i on are there.
-fn has_bytes(s: &[u8], i: usize, n: usize) -> bool
-    ensures { λ r. ⌜ (r ≡ true → i + n ≤ length (now (s .entry))) ⌝ }
-{
-    if s.len() <= i {
-        return false;
-    }
-    n <= s.len() - i
-}
 
 fn point_in(s: &[u8], i: usize) -> Point
     requires { ⌜ i + 12 ≤ length (now s) ⌝ }
@@ -51,20 +40,11 @@ const ORIGIN: Point = Point {
     z: 0.0,
 };
 
-const NO_CORNER: Corner = Corner {
-    base: ORIGIN,
-    top: ORIGIN,
-};
-
-const NO_PAIR: Pair = Pair { sin: 0.0, cos: 0.0 };
-
 // A function of its own, so that `point_at` is short enough to be inlined.
 fn point_near_end(s: &[u8], i: usize) -> Point
+    requires { ⌜ i ≤ length (now s) ⌝ }
     ensures { λ r. ⌜ r ≡ pointAt (now (s .entry)) i ⌝ }
 {
-    if s.len() <= i {
-        return ORIGIN;
-    }
     Point {
         x: f32_at(s, i),
         y: f32_at(s, i + 4),
@@ -75,28 +55,36 @@ fn point_near_end(s: &[u8], i: usize) -> Point
 pub fn point_at(s: &[u8], i: usize) -> Point
     ensures { λ r. ⌜ r ≡ pointAt (now (s .entry)) i ⌝ }
 {
-    if has_bytes(s, i, 12) {
+    if s.len() < i {
+        return ORIGIN;
+    }
+    if 12 <= s.len() - i {
         return point_in(s, i);
     }
     point_near_end(s, i)
 }
 
 fn corner_near_end(s: &[u8], i: usize) -> Corner
+    requires { ⌜ i ≤ length (now s) ⌝ }
     ensures { λ r. ⌜ r ≡ cornerAt (now (s .entry)) i ⌝ }
 {
-    if s.len() <= i {
-        return NO_CORNER;
-    }
     Corner {
-        base: point_near_end(s, i),
-        top: point_near_end(s, i + 12),
+        base: point_at(s, i),
+        top: point_at(s, i + 12),
     }
 }
 
 pub fn corner_at(s: &[u8], i: usize) -> Corner
     ensures { λ r. ⌜ r ≡ cornerAt (now (s .entry)) i ⌝ }
 {
-    if has_bytes(s, i, 24) {
+    if s.len() < i {
+        let origin = ORIGIN;
+        return Corner {
+            base: origin,
+            top: origin,
+        };
+    }
+    if 24 <= s.len() - i {
         return corner_in(s, i);
     }
     corner_near_end(s, i)
@@ -105,14 +93,12 @@ pub fn corner_at(s: &[u8], i: usize) -> Corner
 pub fn section_at(s: &[u8], i: usize) -> Section
     ensures { λ r. ⌜ r ≡ sectionAt (now (s .entry)) i ⌝ }
 {
+    let left = corner_at(s, i);
     if s.len() <= i {
-        return Section {
-            left: NO_CORNER,
-            right: NO_CORNER,
-        };
+        return Section { left, right: left };
     }
     Section {
-        left: corner_at(s, i),
+        left,
         right: corner_at(s, i + 24),
     }
 }
@@ -121,7 +107,7 @@ fn pair_at(s: &[u8], i: usize) -> Pair
     ensures { λ r. ⌜ r ≡ pairAt (now (s .entry)) i ⌝ }
 {
     if s.len() <= i {
-        return NO_PAIR;
+        return Pair { sin: 0.0, cos: 0.0 };
     }
     Pair {
         sin: f64_at(s, i),
@@ -132,15 +118,16 @@ fn pair_at(s: &[u8], i: usize) -> Pair
 pub fn orientation_at(s: &[u8], i: usize) -> Orientation
     ensures { λ r. ⌜ r ≡ orientationAt (now (s .entry)) i ⌝ }
 {
+    let heading = pair_at(s, i);
     if s.len() <= i {
         return Orientation {
-            heading: NO_PAIR,
-            pitch: NO_PAIR,
-            roll: NO_PAIR,
+            heading,
+            pitch: heading,
+            roll: heading,
         };
     }
     Orientation {
-        heading: pair_at(s, i),
+        heading,
         pitch: pair_at(s, i + 16),
         roll: pair_at(s, i + 32),
     }
