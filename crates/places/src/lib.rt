@@ -8,13 +8,21 @@ use lid::CornerNumber;
 use lid::Corners;
 use lid::RingPlace;
 
-// The corner number at a place of a ring, 0 past the end.
-pub fn number_at(ring: &[u32], at: RingPlace) -> CornerNumber
+// The corner number at a place of a ring.
+fn number_in(ring: &[u32], at: RingPlace) -> CornerNumber
+    requires { ⌜ at .0 < length (now ring) ⌝ }
     ensures { λ r. ⌜ r ≡ cornerOf (getD (now (ring .entry)) (at .0) 0) ⌝ }
 {
     let i = at.0;
-    if i < ring.len() {
-        return CornerNumber(ring[i]);
+    CornerNumber(ring[i])
+}
+
+// The same, 0 past the end.
+pub fn number_at(ring: &[u32], at: RingPlace) -> CornerNumber
+    ensures { λ r. ⌜ r ≡ cornerOf (getD (now (ring .entry)) (at .0) 0) ⌝ }
+{
+    if at.0 < ring.len() {
+        return number_in(ring, at);
     }
     CornerNumber(0)
 }
@@ -49,13 +57,12 @@ pub fn corners_at(ring: &[u32], at: RingPlace) -> Corners
     ensures { λ r. ⌜ r ≡ cornersOf (now (ring .entry)) (at .0) ⌝ }
 {
     let n = ring.len();
-    let h = place_before(n, at).0;
-    let i = at.0;
-    let j = place_after(n, at).0;
+    let before = place_before(n, at);
+    let after = place_after(n, at);
     Corners {
-        a: CornerNumber(ring[h]),
-        b: CornerNumber(ring[i]),
-        c: CornerNumber(ring[j]),
+        a: number_in(ring, before),
+        b: number_in(ring, at),
+        c: number_in(ring, after),
     }
 }
 

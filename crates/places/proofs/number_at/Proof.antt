@@ -2,14 +2,12 @@
 use mathlib.Core.List.{List}
 use Prim.Native.Nat.{_-_}
 use lib.ListN.{List·getD-eq-default}
-use borrow.Author.Needs.{needs}
 use Rattle.places.proofs.number_at.Statement.{statement}
 use Rattle.places.proofs.number_at.Tie as tie
 use denote.Ref.{now}
 
 returns-2 : tie.Need-returns-2
-returns-2 c = rw (List·getD-eq-default (now (c .before .args .ring)) 0 (c .if1 .left))
+returns-2 c = rw (List·getD-eq-default (now (c .before .before .before .args .ring)) 0 (c .if1 .left))
 
 pub number-at-spec : {M : Type 1} → statement M
-number-at-spec = tie.close
-    (tie.spec (λ c. search needs) (λ c. search needs) (λ c. search needs) returns-2)
+number-at-spec = tie.close (tie.spec (λ c κs. c .if1 .taken) (λ c. c .number-in .ensures) returns-2)
