@@ -2,7 +2,7 @@
 ghost use mathlib.Core.Path.{_≡_};
 ghost use Rattle.float.specs.Signs.{signum};
 ghost use Rattle.vectors.specs.Vectors.{scale, dot, cross};
-ghost use Rattle.lid.specs.Plane.{riseStep, lidSide, firstAxis};
+ghost use Rattle.lid.specs.Plane.{riseStep, firstAxis};
 ghost use Rattle.lid.specs.Steps.{areaNormalAt, lidNormalFrom, aboutFrom, flatOn, axisAcross};
 use coords::Point;
 use lid::Flat;
@@ -24,20 +24,8 @@ pub fn rise_step(sum: Vector, c: Corner) -> Vector
     sum.add(c.top.sub(c.base))
 }
 
-// Which way a lid faces that is square to n: away from the bases, or up where they coincide with the tops.
-pub fn lid_side(n: Vector, away: f32) -> Vector
-    ensures { λ r. ⌜ r ≡ lidSide n away ⌝ }
-{
-    if signs::abs(away) > MIN_AREA {
-        return n.scale(signs::signum(away));
-    }
-    if n.z < 0.0 {
-        return n.neg();
-    }
-    n
-}
-
-// The lid's normal, from the vector area of the tops and the sum of the rises.
+// The lid's normal, from the vector area of the tops and the sum of the rises: away from the bases, or
+// up where they coincide with the tops.
 pub fn lid_normal(area: Vector, rise: Vector) -> Vector
     ensures { λ r. ⌜ r ≡ lidNormalFrom area rise ⌝ }
 {
@@ -47,7 +35,14 @@ pub fn lid_normal(area: Vector, rise: Vector) -> Vector
         z: 1.0,
     };
     let n = area.normalize_or(up);
-    lid_side(n, n.dot(rise))
+    let away = n.dot(rise);
+    if signs::abs(away) > MIN_AREA {
+        return n.scale(signs::signum(away));
+    }
+    if n.z < 0.0 {
+        return n.neg();
+    }
+    n
 }
 
 // The lid's normal or its reverse, from the vector area of a ring's bases.
