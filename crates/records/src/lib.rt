@@ -8,9 +8,9 @@ ghost use lib.ListN.{length};
 ghost use Rattle.lists.specs.Loops.{sumOf};
 ghost use Rattle.object.specs.declared.Extent.{Extent};
 ghost use Rattle.object.specs.declared.Section.{Section};
-ghost use Rattle.object.specs.Object.{Shape};
-ghost use Rattle.fields.specs.Fields.{countsAt};
-ghost use Rattle.scene.specs.Scene.{solidAt, outlineCorners, outlineAt, sweepAt, kindAt, recordAt};
+ghost use Rattle.object.specs.Object.{Shape, Object};
+ghost use Rattle.fields.specs.Fields.{countsAt, all32};
+ghost use Rattle.scene.specs.Scene.{rest, solidAt, outlineCorners, outlineAt, sweepAt, kindAt, recordAt};
 ghost use Rattle.scene.specs.Answers.{endOf};
 use allowed::all_allowed32;
 use allowed::orientation_allowed;
@@ -24,19 +24,32 @@ fn check_solid(s: &[u8], e: usize, i: usize, w: usize) -> RecordEnd
     requires { ⌜ (i ≤ e) × (e ≤ length (now s)) × (w ≤ 3) ⌝ }
     ensures { λ r. ⌜ ((id : ℕ) (x : Extent) → r ≡ endOf (solidAt (now (s .entry)) e id i w x)) ⌝ }
 {
-    if e - i < 60 + 4 * w {
+    let size = 60 + 4 * w;
+    if e - i < size {
         return RecordEnd::Bad(Refusal::Past);
     }
-    if !all_allowed32(s, 3, i) {
+    let allowed = all_allowed32(s, 3, i)
+        & orientation_allowed(s, i + 12)
+        & all_allowed32(s, w, i + 60);
+    if !allowed {
         return RecordEnd::Bad(Refusal::Numbers);
     }
-    if !orientation_allowed(s, i + 12) {
+    RecordEnd::At(i + size)
+}
+
+// A record that ends in n numbers, which are at i.
+fn check_numbers(s: &[u8], e: usize, i: usize, n: usize) -> RecordEnd
+    requires { ⌜ (i ≤ e) × (e ≤ length (now s)) × (n ≤ 65536) ⌝ }
+    ensures { λ r. ⌜ ((o : Object) → r ≡ endOf (rest e i (4 * n) (all32 (now (s .entry)) n i) o)) ⌝ }
+{
+    let size = 4 * n;
+    if e - i < size {
+        return RecordEnd::Bad(Refusal::Past);
+    }
+    if !all_allowed32(s, n, i) {
         return RecordEnd::Bad(Refusal::Numbers);
     }
-    if !all_allowed32(s, w, i + 60) {
-        return RecordEnd::Bad(Refusal::Numbers);
-    }
-    RecordEnd::At(i + (60 + 4 * w))
+    RecordEnd::At(i + size)
 }
 
 // The sum of n counts from place i on.
@@ -64,14 +77,7 @@ fn check_corners(s: &[u8], e: usize, i: usize, outer: u16, holes: u16) -> Record
     if 512 < n {
         return RecordEnd::Bad(Refusal::Counts);
     }
-    let at = i + 4 + 2 * (holes as usize);
-    if e - at < 24 * n {
-        return RecordEnd::Bad(Refusal::Past);
-    }
-    if !all_allowed32(s, 6 * n, at) {
-        return RecordEnd::Bad(Refusal::Numbers);
-    }
-    RecordEnd::At(at + 24 * n)
+    check_numbers(s, e, i + 4 + 2 * (holes as usize), 6 * n)
 }
 
 // An outline; its counts are at i.
@@ -105,15 +111,7 @@ fn check_sweep(s: &[u8], e: usize, i: usize) -> RecordEnd
     if 4096 < n {
         return RecordEnd::Bad(Refusal::Counts);
     }
-    let at = i + 2;
-    let count = n as usize;
-    if e - at < 48 * count {
-        return RecordEnd::Bad(Refusal::Past);
-    }
-    if !all_allowed32(s, 12 * count, at) {
-        return RecordEnd::Bad(Refusal::Numbers);
-    }
-    RecordEnd::At(at + 48 * count)
+    check_numbers(s, e, i + 2, 12 * (n as usize))
 }
 
 // What follows the kind and the id.
