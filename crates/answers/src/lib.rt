@@ -1,5 +1,6 @@
 // What the operations answer: specs/Answers.antt gives document 01's number and values for each case.
 ghost use mathlib.Core.Path.{_≡_};
+ghost use lib.Dec.{ltb};
 ghost use Rattle.float.specs.Number.{minArea};
 ghost use Rattle.answers.specs.Answers.{lengthsFrom, roomFor, measuredAnswer, builtAnswer, answerNumbers};
 use mesh::Validation;
@@ -63,20 +64,24 @@ pub fn min_area() -> f32
     0.000001
 }
 
+// Whether a buffer that holds `has` numbers is too short for n.
+fn short(has: usize, n: u32) -> bool
+    ensures { λ r. ⌜ r ≡ ltb has n ⌝ }
+{
+    has < n as usize
+}
+
 // Whether buffers of these lengths have room.
 pub fn room(has: Lengths, c: Counted) -> BuiltAnswer
     ensures { λ r. ⌜ r ≡ roomFor (lengthsFrom has) c ⌝ }
 {
-    if (has.vertices < c.vertices as usize) | (has.normals < c.normals as usize) {
+    if short(has.vertices, c.vertices) | short(has.normals, c.normals) {
         return BuiltAnswer::ShortVertices;
     }
-    if has.indices < c.indices as usize {
+    if short(has.indices, c.indices) {
         return BuiltAnswer::ShortIndices;
     }
-    if (has.spans < c.spans as usize)
-        | (has.account < c.account as usize)
-        | (has.log < c.log as usize)
-    {
+    if short(has.spans, c.spans) | short(has.account, c.account) | short(has.log, c.log) {
         return BuiltAnswer::ShortRecords;
     }
     BuiltAnswer::Complete(c)
