@@ -1,6 +1,5 @@
 -- A lid's triangles in a buffer, and its bounds. Assumes nothing.
 use mathlib.Core.Path.{_≡_, refl, sym, ap, ap₂, subst, _∙_}
-use mathlib.Core.Bool.{Bool}
 use Prim.Native.Nat.{ℕ, suc, _+_, _-_, _*_, _/_, _<_, _≤_}
 use native.Mathlib.Omega.{arith}
 use mathlib.Core.List.{List, [], _∷_, map}
@@ -29,8 +28,9 @@ use Rattle.face.proofs.OneFace.{length-triangles}
 use Rattle.lid.specs.Lid.{lidPrice}
 use Rattle.lid.specs.Written.{triangleRecord, triangleNumbers}
 use Rattle.lid.proofs.Facts.{lid-triangles, lid-corners}
-use Rattle.shapes.specs.Shapes.{flatOf, outlineLid, hasHeight}
-use Rattle.lid_plane.specs.Outlines.{faceAt, pointsAt, Near, cornersOf, holeCorners, lidAt, Placed}
+use Rattle.shapes.specs.Shapes.{flatOf, outlineLid}
+use Rattle.lid_plane.specs.declared.OutlineAt.{OutlineAt}
+use Rattle.lid_plane.specs.Outlines.{faceAt, pointsAt, cornersOf, holeCorners, lidAt, Placed, Measured}
 use Rattle.lid_plane.proofs.CornerLaws.{points-length}
 use Rattle.lid_cuts.proofs.FillLaws.{fill-front}
 use Rattle.shapes.proofs.Sizes.{outline-entries, price-lid}
@@ -117,14 +117,15 @@ module _ (s : List ℕ) (i outer holes : ℕ) (p : Placed s i outer holes) where
       (corners-count s outer (cornersOf i holes) (countsAt s holes (i + 4)) (cornersOf i holes + 24 * outer))
       (unfold outlineLid in lid-corners (flatOf cs hs) (length cs) (map length hs))
 
-  -- what `lid_faces` asks, where the lid's triangles are written at the start of a buffer with room for them
-  pub lid-asks : {before n count : ℕ} {t : Tally} {high : Bool} (buffer buffer′ : List ℕ) → n ≡ outer + holeCorners s i holes → high ≡ hasHeight (cornersAt s n (cornersOf i holes)) → Room before t 1024 1224
-      → count ≡ length (lidAt s i outer holes .triangles) → buffer′ ≡ sets buffer 0 (triangleNumbers (lidAt s i outer holes .triangles)) → 3 * length (lidAt s i outer holes .triangles) ≤ length buffer
-      → (Near (cornersOf i holes) n × (n ≤ 512) × (high ≡ hasHeight (cornersAt s n (cornersOf i holes))))
-      × (Room before t (2 * n) (2 * (length (take (3 * count) buffer′) / 3)) × Each (TriangleLow n) (trianglesIn (take (3 * count) buffer′)))
-  lid-asks {before} {n} {count} {t} buffer buffer′ m h room e w fits =
-      let ts = lidAt s i outer holes .triangles in
-      let drawn = triangles-drawn buffer buffer′ ts count e w fits in
-      let size = sym (length-triangles (take (3 * count) buffer′)) ∙ ap length drawn in
-      let low = subst (λ (k : ℕ). Each (TriangleLow k) ts) (sym m) low-triangles in
-      ((omega (arith, p .near, m), omega (arith, p .corners, m), h), (room-less room (omega (arith, p .corners, m)) (omega (arith, size, few-triangles)), subst (Each (TriangleLow n)) (sym drawn) low))
+-- what `lid_faces` asks of the lid's triangles, where they are written at the start of a buffer with room for them
+pub lid-asks : {s : List ℕ} {o : OutlineAt} {before count : ℕ} {t : Tally} (buffer buffer′ : List ℕ) → Measured s o → Room before t 1024 1224
+    → count ≡ length (lidAt s (o .i) (o .outer) (o .holes) .triangles) → buffer′ ≡ sets buffer 0 (triangleNumbers (lidAt s (o .i) (o .outer) (o .holes) .triangles))
+    → 3 * length (lidAt s (o .i) (o .outer) (o .holes) .triangles) ≤ length buffer
+    → Room before t (2 * o .n) (2 * (length (take (3 * count) buffer′) / 3)) × Each (TriangleLow (o .n)) (trianglesIn (take (3 * count) buffer′))
+lid-asks {s} {o} {before} {count} {t} buffer buffer′ m room e w fits =
+    let p = m .placed in
+    let ts = lidAt s (o .i) (o .outer) (o .holes) .triangles in
+    let drawn = triangles-drawn buffer buffer′ ts count e w fits in
+    let size = sym (length-triangles (take (3 * count) buffer′)) ∙ ap length drawn in
+    let low = subst (λ (k : ℕ). Each (TriangleLow k) ts) (sym (m .all)) (low-triangles s (o .i) (o .outer) (o .holes) p) in
+    (room-less room (omega (arith, p .corners, m .all)) (omega (arith, size, few-triangles s (o .i) (o .outer) (o .holes) p)), subst (Each (TriangleLow (o .n))) (sym drawn) low)

@@ -1,6 +1,7 @@
 // The lid of a closed outline and the floor under it: the lid's triangles drawn over the tops and under
 // the bases.
 ghost use mathlib.Core.Path.{_≡_};
+ghost use mathlib.Core.Bool.{cond};
 ghost use Prim.Native.Nat.{_+_, _*_, _<_, _≤_, _/_};
 ghost use lib.ListN.{length};
 ghost use lib.Seq.{sets};
@@ -10,21 +11,15 @@ ghost use Rattle.fields.specs.Fields.{cornersAt};
 ghost use Rattle.face.specs.Faces.{TriangleLow};
 ghost use Rattle.offering.specs.Triangles.{trianglesIn};
 ghost use Rattle.face.specs.Drawing.{drawing, Drew, Room};
-ghost use Rattle.lid.specs.Plane.{lidNormal};
 ghost use Rattle.lid.specs.Written.{logWith};
 ghost use Rattle.shapes.specs.Shapes.{hasHeight, lidFaces};
-ghost use Rattle.lid_plane.specs.Outlines.{pointsAt, Near, PointsNear, cornersOf, holeCorners, lidAt, Placed};
+ghost use Rattle.lid_plane.specs.Outlines.{pointsAt, Near, PointsNear, lidAt, Measured};
 use face::Tally;
 use geometry::point_at;
-use lid_cuts::cut_corners;
+use lid_cuts::cut;
+use lid_plane::OutlineAt;
+use shapes::Drawn;
 use vectors::Vector;
-
-// The lid and the floor, drawn: how many triangles a lid has, and how many entries its log.
-pub struct Capped {
-    pub tally: Tally,
-    pub triangles: u32,
-    pub entries: u32,
-}
 
 // The numbers of n points at `at`.
 fn put_points(s: &[u8], at: usize, n: u32, points: &mut [f32])
@@ -39,14 +34,12 @@ fn put_points(s: &[u8], at: usize, n: u32, points: &mut [f32])
     }
 }
 
-// The lid over n corners at `at` and, where they have height, the floor under them.
+// The lid over an outline's corners and, where they have height, the floor under them.
 fn lid_faces(
     s: &[u8],
-    at: usize,
-    n: u32,
-    lid: Vector,
-    high: bool,
+    o: OutlineAt,
     triangles: &[u32],
+    points: &mut [f32],
     limit: f32,
     before: u32,
     t: Tally,
@@ -54,74 +47,67 @@ fn lid_faces(
     ns: &mut [f32],
     is: &mut [u32],
 ) -> Tally
-    requires { ⌜ Near at n × (n ≤ 512) × (high ≡ hasHeight (cornersAt (now s) n at)) ⌝ }
-    requires { ⌜ Room before t (2 * n) (2 * (length (now triangles) / 3)) × Each (TriangleLow n) (trianglesIn (now triangles)) ⌝ }
-    ensures { λ r. ⌜ Drew limit (lidFaces (cornersAt (now (s .entry)) n at) lid (trianglesIn (now (triangles .entry)))) before (drawing t (now (vs .entry)) (now (ns .entry)) (now (is .entry))) (drawing r (now (vs .exit)) (now (ns .exit)) (now (is .exit))) ⌝ }
+    requires { ⌜ Near (o .at) (o .n) × (3 * o .n ≤ length (now points)) × (o .high ≡ hasHeight (cornersAt (now s) (o .n) (o .at))) ⌝ }
+    requires { ⌜ Room before t (2 * o .n) (2 * (length (now triangles) / 3)) × Each (TriangleLow (o .n)) (trianglesIn (now triangles)) ⌝ }
+    ensures { λ r. ⌜ Drew limit (lidFaces (cornersAt (now (s .entry)) (o .n) (o .at)) (o .lid) (trianglesIn (now (triangles .entry)))) before (drawing t (now (vs .entry)) (now (ns .entry)) (now (is .entry))) (drawing r (now (vs .exit)) (now (ns .exit)) (now (is .exit))) ⌝ }
 {
-    let mut points = [0.0; 1536];
-    let m = 3 * (n as usize);
-    put_points(s, at + 12, n, &mut points);
-    let t = face::face(&points[..m], triangles, lid, limit, before, t, vs, ns, is);
-    if high {
-        put_points(s, at, n, &mut points);
-        return face::face(
-            &points[..m],
-            triangles,
-            lid.neg(),
-            limit,
-            before,
-            t,
-            vs,
-            ns,
-            is,
-        );
+    let m = 3 * (o.n as usize);
+    put_points(s, o.at + 12, o.n, points);
+    let t = face::face(&points[..m], triangles, o.lid, limit, before, t, vs, ns, is);
+    if o.high {
+        put_points(s, o.at, o.n, points);
+        let down = o.lid.neg();
+        return face::face(&points[..m], triangles, down, limit, before, t, vs, ns, is);
     }
     t
 }
 
-// The lid and the floor of an outline of few corners, whose lid has at most 32 triangles.
-fn cap_few(
+// The price of a closed outline of n corners, whose lid has some triangles.
+fn closed_price(n: u32, high: bool, triangles: u32) -> u32
+    requires { ⌜ (n ≤ 512) × (triangles ≤ 612) ⌝ }
+    ensures { λ r. ⌜ r ≡ 2 * n + triangles + cond high triangles 0 ⌝ }
+{
+    if high {
+        return 2 * n + triangles + triangles;
+    }
+    2 * n + triangles
+}
+
+// The lid and the floor of an outline, with its log: `room` has the corners laid flat and then the
+// points of a face, `ts` the lid's triangles.
+fn cap_in(
     s: &[u8],
-    i: usize,
-    outer: u32,
-    holes: usize,
-    n: u32,
-    lid: Vector,
-    high: bool,
+    o: OutlineAt,
     limit: f32,
     before: u32,
     t: Tally,
+    room: &mut [f32],
+    ts: &mut [u32],
     vs: &mut [f32],
     ns: &mut [f32],
     is: &mut [u32],
     log: &mut [u32],
-) -> Capped
-    requires { ⌜ Placed (now s) i outer holes × (n ≡ outer + holeCorners (now s) i holes) × (lid ≡ lidNormal (cornersAt (now s) outer (cornersOf i holes))) × (high ≡ hasHeight (cornersAt (now s) n (cornersOf i holes))) ⌝ }
-    requires { ⌜ Room before t 1024 1224 × (n + 3 * holes ≤ 30) ⌝ }
-    ensures { λ r. ⌜ Drew limit (lidFaces (cornersAt (now (s .entry)) n (cornersOf i holes)) lid (lidAt (now (s .entry)) i outer holes .triangles)) before (drawing t (now (vs .entry)) (now (ns .entry)) (now (is .entry))) (drawing (r .tally) (now (vs .exit)) (now (ns .exit)) (now (is .exit))) ⌝ }
-    ensures { λ r. ⌜ (r .triangles ≡ length (lidAt (now (s .entry)) i outer holes .triangles)) × (r .entries ≡ length (lidAt (now (s .entry)) i outer holes .log)) × (now (log .exit) ≡ logWith (now (log .entry)) 0 (lidAt (now (s .entry)) i outer holes .log)) ⌝ }
+) -> Drawn
+    requires { ⌜ Measured (now s) o × (o .high ≡ hasHeight (cornersAt (now s) (o .n) (o .at))) × Room before t 1024 1224 ⌝ }
+    requires { ⌜ (3 * o .n ≤ length (now room)) × (3 * length (lidAt (now s) (o .i) (o .outer) (o .holes) .triangles) ≤ length (now ts)) ⌝ }
+    ensures { λ r. ⌜ Drew limit (lidFaces (cornersAt (now (s .entry)) (o .n) (o .at)) (o .lid) (lidAt (now (s .entry)) (o .i) (o .outer) (o .holes) .triangles)) before (drawing t (now (vs .entry)) (now (ns .entry)) (now (is .entry))) (drawing (r .tally) (now (vs .exit)) (now (ns .exit)) (now (is .exit))) ⌝ }
+    ensures { λ r. ⌜ (r .offered ≡ 2 * o .n + length (lidAt (now (s .entry)) (o .i) (o .outer) (o .holes) .triangles) + cond (o .high) (length (lidAt (now (s .entry)) (o .i) (o .outer) (o .holes) .triangles)) 0) × (r .entries ≡ length (lidAt (now (s .entry)) (o .i) (o .outer) (o .holes) .log)) × (now (log .exit) ≡ logWith (now (log .entry)) 0 (lidAt (now (s .entry)) (o .i) (o .outer) (o .holes) .log)) ⌝ }
 {
-    let mut ts = [0; 96];
-    let d = cut_corners(s, i, outer, holes, n, lid, log, &mut ts);
+    let d = cut(s, o, room, log, ts);
     let c = 3 * (d.triangles as usize);
-    let at = i + 4 + 2 * holes;
-    let tally = lid_faces(s, at, n, lid, high, &ts[..c], limit, before, t, vs, ns, is);
-    Capped {
+    let tally = lid_faces(s, o, &ts[..c], room, limit, before, t, vs, ns, is);
+    Drawn {
         tally,
-        triangles: d.triangles,
+        offered: closed_price(o.n, o.high, d.triangles),
         entries: d.entries,
     }
 }
 
-// The lid and the floor of an outline whose counts are at i, with n corners in all.
+// The lid and the floor of an outline, with its log. Most outlines have few corners, and need not wait
+// until much room is cleared.
 pub fn cap(
     s: &[u8],
-    i: usize,
-    outer: u32,
-    holes: usize,
-    n: u32,
-    lid: Vector,
-    high: bool,
+    o: OutlineAt,
     limit: f32,
     before: u32,
     t: Tally,
@@ -129,25 +115,17 @@ pub fn cap(
     ns: &mut [f32],
     is: &mut [u32],
     log: &mut [u32],
-) -> Capped
-    requires { ⌜ Placed (now s) i outer holes × (n ≡ outer + holeCorners (now s) i holes) × (lid ≡ lidNormal (cornersAt (now s) outer (cornersOf i holes))) × (high ≡ hasHeight (cornersAt (now s) n (cornersOf i holes))) ⌝ }
-    requires { ⌜ Room before t 1024 1224 ⌝ }
-    ensures { λ r. ⌜ Drew limit (lidFaces (cornersAt (now (s .entry)) n (cornersOf i holes)) lid (lidAt (now (s .entry)) i outer holes .triangles)) before (drawing t (now (vs .entry)) (now (ns .entry)) (now (is .entry))) (drawing (r .tally) (now (vs .exit)) (now (ns .exit)) (now (is .exit))) ⌝ }
-    ensures { λ r. ⌜ (r .triangles ≡ length (lidAt (now (s .entry)) i outer holes .triangles)) × (r .entries ≡ length (lidAt (now (s .entry)) i outer holes .log)) × (now (log .exit) ≡ logWith (now (log .entry)) 0 (lidAt (now (s .entry)) i outer holes .log)) ⌝ }
+) -> Drawn
+    requires { ⌜ Measured (now s) o × (o .high ≡ hasHeight (cornersAt (now s) (o .n) (o .at))) × Room before t 1024 1224 ⌝ }
+    ensures { λ r. ⌜ Drew limit (lidFaces (cornersAt (now (s .entry)) (o .n) (o .at)) (o .lid) (lidAt (now (s .entry)) (o .i) (o .outer) (o .holes) .triangles)) before (drawing t (now (vs .entry)) (now (ns .entry)) (now (is .entry))) (drawing (r .tally) (now (vs .exit)) (now (ns .exit)) (now (is .exit))) ⌝ }
+    ensures { λ r. ⌜ (r .offered ≡ 2 * o .n + length (lidAt (now (s .entry)) (o .i) (o .outer) (o .holes) .triangles) + cond (o .high) (length (lidAt (now (s .entry)) (o .i) (o .outer) (o .holes) .triangles)) 0) × (r .entries ≡ length (lidAt (now (s .entry)) (o .i) (o .outer) (o .holes) .log)) × (now (log .exit) ≡ logWith (now (log .entry)) 0 (lidAt (now (s .entry)) (o .i) (o .outer) (o .holes) .log)) ⌝ }
 {
-    let o = outer;
-    let h = holes;
-    if (n as usize) + 3 * h <= 30 {
-        return cap_few(s, i, o, h, n, lid, high, limit, before, t, vs, ns, is, log);
+    if (o.n as usize) + 3 * o.holes <= 32 {
+        let mut room = [0.0; 96];
+        let mut ts = [0; 102];
+        return cap_in(s, o, limit, before, t, &mut room, &mut ts, vs, ns, is, log);
     }
+    let mut room = [0.0; 1536];
     let mut ts = [0; 1836];
-    let d = cut_corners(s, i, outer, holes, n, lid, log, &mut ts);
-    let c = 3 * (d.triangles as usize);
-    let at = i + 4 + 2 * holes;
-    let tally = lid_faces(s, at, n, lid, high, &ts[..c], limit, before, t, vs, ns, is);
-    Capped {
-        tally,
-        triangles: d.triangles,
-        entries: d.entries,
-    }
+    cap_in(s, o, limit, before, t, &mut room, &mut ts, vs, ns, is, log)
 }

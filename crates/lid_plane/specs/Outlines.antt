@@ -1,4 +1,5 @@
 -- An outline where it lies in the scene's bytes: its points, 24 bytes apart, the bases from the corners' place on and the tops 12 bytes behind them. Definitions only.
+use mathlib.Core.Path.{_≡_}
 use mathlib.Core.Bool.{Bool}
 use Prim.Native.Nat.{ℕ, _+_, _*_, _<_, _≤_, _^_}
 use mathlib.Core.List.{List}
@@ -11,8 +12,10 @@ use Rattle.object.specs.declared.Corner.{Corner}
 use Rattle.object.specs.Object.{Shape, outline}
 use Rattle.fields.specs.Fields.{pointAt, countsAt, cornersAt, holesAt}
 use Rattle.face.specs.Faces.{Triangle, Face, quad}
+use Rattle.lid.specs.Plane.{lidNormal}
 use Rattle.lid.specs.Lid.{Lid}
 use Rattle.shapes.specs.Shapes.{outlineLid}
+use Rattle.lid_plane.specs.declared.OutlineAt.{OutlineAt}
 
 -- n points, 24 bytes apart, from place `at` on
 unfoldable pub pointsAt : List ℕ → ℕ → ℕ → List Point
@@ -54,3 +57,10 @@ pub record Placed (s : List ℕ) (i outer holes : ℕ) : Type 0 where
   pub few : holes ≤ 32
   pub corners : outer + holeCorners s i holes ≤ 512
   pub near : Near (cornersOf i holes) (outer + holeCorners s i holes)
+
+-- what the code has worked out of it
+pub record Measured (s : List ℕ) (o : OutlineAt) : Type 0 where
+  pub placed : Placed s (o .i) (o .outer) (o .holes)
+  pub place : o .at ≡ cornersOf (o .i) (o .holes)
+  pub all : o .n ≡ o .outer + holeCorners s (o .i) (o .holes)
+  pub normal : o .lid ≡ lidNormal (cornersAt s (o .outer) (o .at))

@@ -21,6 +21,18 @@ const ZERO: Vector = Vector {
     z: 0.0,
 };
 
+// An outline where it lies: its counts are at `i` and its corners, n in all, at `at`. `lid` is the
+// normal of its lid, and `high` tells whether a closed one has a floor.
+pub struct OutlineAt {
+    pub i: usize,
+    pub at: usize,
+    pub outer: u32,
+    pub holes: usize,
+    pub n: u32,
+    pub lid: Vector,
+    pub high: bool,
+}
+
 // Where corner k + 1 of the n at `at` lies; behind the last one comes the first.
 pub fn next_place(at: usize, n: usize, k: usize) -> usize
     requires { ⌜ PointsNear at n × (k < n) ⌝ }

@@ -19,7 +19,7 @@ use Rattle.face.specs.Drawing.{Drawing, tally, drawing, Drew, Room}
 use Rattle.face.proofs.Counts.{count}
 use Rattle.face.proofs.Draws.{drew-room, then}
 use Rattle.lid.specs.Plane.{lidNormal, about}
-use Rattle.lid.specs.Lid.{lidPrice}
+use Rattle.lid.specs.Lid.{Lid, lidPrice}
 use Rattle.lid.specs.Log.{logNumbers}
 use Rattle.lid.specs.Written.{logWith}
 use Rattle.lid.proofs.Facts.{total, lid-triangles}
@@ -27,7 +27,9 @@ use Rattle.shapes.specs.Shapes.{walls, outerWalls, holeWalls, allCorners, flatO
 use Rattle.shapes.specs.declared.Drawn.{Drawn}
 use Rattle.shapes.specs.Drawn.{CanDraw, DrewObject}
 use Rattle.shapes.specs.Price.{offered, outlinePrice}
-use Rattle.lid_plane.specs.Outlines.{cornersOf, holeCorners, outlineShape, lidAt, Placed}
+use Rattle.lid_plane.specs.declared.OutlineAt.{OutlineAt}
+use Rattle.lid_plane.specs.Outlines.{cornersOf, holeCorners, outlineShape, lidAt, Placed, Measured}
+use Rattle.outlines.specs.Measures.{outlineIn}
 use Rattle.shapes.proofs.Sizes.{sum-lengths, outer-points, holes-points}
 use Rattle.shapes.proofs.Prices.{walls-count, holes-count}
 use Rattle.lid_cuts.proofs.FlatLaws.{all-corners}
@@ -65,7 +67,7 @@ module _ (s : List ℕ) (i outer holes : ℕ) where
   corners-all = omega (arith, corners-length s outer (cornersOf i holes), sum-lengths holesOf, ap total (holes-size s (countsAt s holes (i + 4)) (cornersOf i holes + 24 * outer)))
 
   -- walls leave room for the lid and the floor
-  pub lid-room : {limit : Float} {before : ℕ} {vs ns : List Float} {is : List ℕ} {d : Drawing} (closed : Bool) (lid : Vector) → before ≤ 33554432 → Placed s i outer holes
+  lid-room : {limit : Float} {before : ℕ} {vs ns : List Float} {is : List ℕ} {d : Drawing} (closed : Bool) (lid : Vector) → before ≤ 33554432 → Placed s i outer holes
       → Drew limit (wallsOf closed lid) before (drawing (tally 0 0 0) vs ns is) d → Room before (d .tally) 1024 1224
   lid-room {limit} {before} closed lid h placed p =
       let start : Room before (tally 0 0 0) 3072 2248 = record { vertices = omega arith; kept = omega arith; thin = omega arith } in
@@ -89,7 +91,7 @@ module _ (s : List ℕ) (i outer holes : ℕ) where
 
   -- an open outline, drawn
   module _ {limit : Float} {before : ℕ} {vs ns : List Float} {is : List ℕ} {lid : Vector} {n : ℕ} where
-    pub open-object : (closed : Bool) {ls : List ℕ} {r : Drawn} {vs′ ns′ : List Float} {is′ : List ℕ} → closed ≡ false → lid ≡ lidNormal outerCorners → n ≡ outer + holeCorners s i holes
+    open-object : (closed : Bool) {ls : List ℕ} {r : Drawn} {vs′ ns′ : List Float} {is′ : List ℕ} → closed ≡ false → lid ≡ lidNormal outerCorners → n ≡ outer + holeCorners s i holes
         → Drew limit (wallsOf closed lid) before (drawing (tally 0 0 0) vs ns is) (drawing (r .tally) vs′ ns′ is′) → r .offered ≡ 2 * (outer - 1) + 2 * (n - outer) → r .entries ≡ 0
         → DrewObject limit (outlineShape s i closed outer holes) before vs ns is ls r vs′ ns′ is′ ls
     unfolding facesOf outlineFaces offered outlinePrice logOf logNumbers join
@@ -103,7 +105,7 @@ module _ (s : List ℕ) (i outer holes : ℕ) where
     open-object true c l e drew price none = absurd (true≢false c)
 
     -- a closed one, whose walls leave the drawing at d
-    pub closed-object : (closed : Bool) {high : Bool} {triangles : ℕ} {ls : List ℕ} {d : Drawing} {r : Drawn} {vs′ ns′ : List Float} {is′ ls′ : List ℕ} → closed ≡ true → lid ≡ lidNormal outerCorners
+    closed-object : (closed : Bool) {high : Bool} {triangles : ℕ} {ls : List ℕ} {d : Drawing} {r : Drawn} {vs′ ns′ : List Float} {is′ ls′ : List ℕ} → closed ≡ true → lid ≡ lidNormal outerCorners
         → n ≡ outer + holeCorners s i holes → high ≡ hasHeight (cornersAt s n (cornersOf i holes)) → Drew limit (wallsOf closed lid) before (drawing (tally 0 0 0) vs ns is) d
         → Drew limit (lidFaces (cornersAt s n (cornersOf i holes)) lid (lidAt s i outer holes .triangles)) before d (drawing (r .tally) vs′ ns′ is′)
         → triangles ≡ length (lidAt s i outer holes .triangles) → r .offered ≡ 2 * n + triangles + cond high triangles 0
@@ -121,6 +123,62 @@ module _ (s : List ℕ) (i outer holes : ℕ) where
         all : n ≡ outer + holeCorners s i holes → cornersAt s n (cornersOf i holes) ≡ allCorners outerCorners holesOf
         all e = ap (λ (m : ℕ). cornersAt s m (cornersOf i holes)) e ∙ sym (all-corners s i outer holes)
     closed-object false c l e h sides lids k price entries log = absurd (false≢true c)
+
+-- ---- the outline that the code has measured
+
+abbrev WallsDrew : List ℕ → Bool → OutlineAt → Float → ℕ → Drawing → Drawing → Type 0
+WallsDrew s closed o limit before d d′ = Drew limit (outerWalls closed (cornersAt s (o .outer) (o .at)) (o .lid) ++ join (holeWalls (o .lid)) (holesAt s (countsAt s (o .holes) (o .i + 4)) (o .at + 24 * o .outer))) before d d′
+
+abbrev lidIn : List ℕ → OutlineAt → Lid
+lidIn s o = lidAt s (o .i) (o .outer) (o .holes)
+
+pub made : (s : List ℕ) (i : ℕ) (closed : Bool) (outer holes n : ℕ) (lid : Vector) (high : Bool) → n ≡ outer + holeCorners s i holes → lid ≡ lidNormal (cornersAt s outer (cornersOf i holes))
+    → high ≡ cond closed (hasHeight (cornersAt s n (cornersOf i holes))) false
+    → _≡_ {A = OutlineAt} (record { i = i; at = cornersOf i holes; outer = outer; holes = holes; n = n; lid = lid; high = high }) (outlineIn s i closed outer holes)
+made s i closed outer holes n lid high e l h = λ z. record {
+  i = i;
+  at = cornersOf i holes;
+  outer = outer;
+  holes = holes;
+  n = e z;
+  lid = l z;
+  high = (h ∙ ap (λ (m : ℕ). cond closed (hasHeight (cornersAt s m (cornersOf i holes))) false) e) z;
+}
+
+module _ (s : List ℕ) (i : ℕ) (closed : Bool) (outer holes : ℕ) {o : OutlineAt} (e : o ≡ outlineIn s i closed outer holes) where
+  pub measured-in : Placed s i outer holes → Measured s o
+  measured-in p = subst (Measured s) (sym e) (record { placed = p; place = refl; all = refl; normal = refl })
+
+  pub high-in : closed ≡ true → o .high ≡ hasHeight (cornersAt s (o .n) (o .at))
+  high-in c =
+      subst (λ (o : OutlineAt). o .high ≡ hasHeight (cornersAt s (o .n) (o .at))) (sym e)
+      (ap (λ (b : Bool). cond b (hasHeight (cornersAt s (outer + holeCorners s i holes) (cornersOf i holes))) false) c)
+
+  pub room-in : {limit : Float} {before : ℕ} {vs ns : List Float} {is : List ℕ} {d : Drawing} → before ≤ 33554432 → Placed s i outer holes
+      → WallsDrew s closed o limit before (drawing (tally 0 0 0) vs ns is) d → Room before (d .tally) 1024 1224
+  room-in {limit} {before} {vs} {ns} {is} {d} h placed p =
+      lid-room s i outer holes closed _ h placed (subst (λ (o : OutlineAt). WallsDrew s closed o limit before (drawing (tally 0 0 0) vs ns is) d) e p)
+
+  module _ {limit : Float} {before : ℕ} {vs ns : List Float} {is : List ℕ} where
+    pub open-in : {ls : List ℕ} {r : Drawn} {vs′ ns′ : List Float} {is′ : List ℕ} → closed ≡ false
+        → WallsDrew s closed o limit before (drawing (tally 0 0 0) vs ns is) (drawing (r .tally) vs′ ns′ is′) → r .offered ≡ 2 * (o .outer - 1) + 2 * (o .n - o .outer) → r .entries ≡ 0
+        → DrewObject limit (outlineShape s i closed outer holes) before vs ns is ls r vs′ ns′ is′ ls
+    open-in {ls} {r} {vs′} {ns′} {is′} c sides price none =
+        subst (λ (o : OutlineAt). WallsDrew s closed o limit before (drawing (tally 0 0 0) vs ns is) (drawing (r .tally) vs′ ns′ is′) → r .offered ≡ 2 * (o .outer - 1) + 2 * (o .n - o .outer)
+        → DrewObject limit (outlineShape s i closed outer holes) before vs ns is ls r vs′ ns′ is′ ls) (sym e)
+        (λ drew offered. open-object s i outer holes closed c refl refl drew offered none) sides price
+
+    pub closed-in : {ls : List ℕ} {d : Drawing} {r : Drawn} {vs′ ns′ : List Float} {is′ ls′ : List ℕ} → closed ≡ true → WallsDrew s closed o limit before (drawing (tally 0 0 0) vs ns is) d
+        → Drew limit (lidFaces (cornersAt s (o .n) (o .at)) (o .lid) (lidIn s o .triangles)) before d (drawing (r .tally) vs′ ns′ is′)
+        → (r .offered ≡ 2 * o .n + length (lidIn s o .triangles) + cond (o .high) (length (lidIn s o .triangles)) 0) × (r .entries ≡ length (lidIn s o .log)) × (ls′ ≡ logWith ls 0 (lidIn s o .log))
+        → DrewObject limit (outlineShape s i closed outer holes) before vs ns is ls r vs′ ns′ is′ ls′
+    closed-in {ls} {d} {r} {vs′} {ns′} {is′} {ls′} c sides lids told =
+        subst (λ (o : OutlineAt). WallsDrew s closed o limit before (drawing (tally 0 0 0) vs ns is) d
+        → Drew limit (lidFaces (cornersAt s (o .n) (o .at)) (o .lid) (lidIn s o .triangles)) before d (drawing (r .tally) vs′ ns′ is′)
+        → (r .offered ≡ 2 * o .n + length (lidIn s o .triangles) + cond (o .high) (length (lidIn s o .triangles)) 0) × (r .entries ≡ length (lidIn s o .log)) × (ls′ ≡ logWith ls 0 (lidIn s o .log))
+        → DrewObject limit (outlineShape s i closed outer holes) before vs ns is ls r vs′ ns′ is′ ls′) (sym e)
+        (λ sides lids told. closed-object s i outer holes closed c refl refl (ap (λ (b : Bool). cond b (hasHeight (cornersAt s (outer + holeCorners s i holes) (cornersOf i holes))) false) c) sides lids refl (told .0) (told .1) (told .2))
+        sides lids told
 
 -- an outline that can be drawn is within the limits, at small places
 pub can-place : (s : List ℕ) (i before : ℕ) (closed : Bool) (outer holes : ℕ) → CanDraw s i (Outline closed outer holes) before → Placed s i outer holes

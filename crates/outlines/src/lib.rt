@@ -10,9 +10,11 @@ ghost use Rattle.face.specs.Drawing.{tally, drawing, Drew, Room};
 ghost use Rattle.lid.specs.Plane.{about};
 ghost use Rattle.shapes.specs.Shapes.{outerWalls, holeWalls};
 ghost use Rattle.shapes.specs.Drawn.{DrewObject};
-ghost use Rattle.lid_plane.specs.Outlines.{Near, cornersOf, outlineShape, Placed};
+ghost use Rattle.lid_plane.specs.Outlines.{Near, outlineShape, Placed, Measured};
+ghost use Rattle.outlines.specs.Measures.{outlineIn};
 use face::Tally;
 use lid_faces::cap;
+use lid_plane::OutlineAt;
 use lid_plane::about;
 use lid_plane::has_height;
 use lid_plane::lid_normal;
@@ -52,32 +54,41 @@ fn edges(n: usize, closed: bool) -> usize
     n - 1
 }
 
-// The walls of an outline whose counts are at i: the outer ones, then the holes'.
+// The walls of an outline: the outer ones, then the holes'.
 fn all_walls(
     s: &[u8],
-    i: usize,
+    o: OutlineAt,
     closed: bool,
-    outer: usize,
-    holes: usize,
-    lid: Vector,
     limit: f32,
     before: u32,
     vs: &mut [f32],
     ns: &mut [f32],
     is: &mut [u32],
 ) -> Tally
-    requires { ⌜ Placed (now s) i outer holes × (before ≤ 33554432) ⌝ }
-    ensures { λ r. ⌜ Drew limit (outerWalls closed (cornersAt (now (s .entry)) outer (cornersOf i holes)) lid ++ join (holeWalls lid) (holesAt (now (s .entry)) (countsAt (now (s .entry)) holes (i + 4)) (cornersOf i holes + 24 * outer))) before (drawing (tally 0 0 0) (now (vs .entry)) (now (ns .entry)) (now (is .entry))) (drawing r (now (vs .exit)) (now (ns .exit)) (now (is .exit))) ⌝ }
+    requires { ⌜ Measured (now s) o × (before ≤ 33554432) ⌝ }
+    ensures { λ r. ⌜ Drew limit (outerWalls closed (cornersAt (now (s .entry)) (o .outer) (o .at)) (o .lid) ++ join (holeWalls (o .lid)) (holesAt (now (s .entry)) (countsAt (now (s .entry)) (o .holes) (o .i + 4)) (o .at + 24 * o .outer))) before (drawing (tally 0 0 0) (now (vs .entry)) (now (ns .entry)) (now (is .entry))) (drawing r (now (vs .exit)) (now (ns .exit)) (now (is .exit))) ⌝ }
 {
-    let at = i + 4 + 2 * holes;
-    let normal = square_to(s, at, outer, closed, lid);
-    let first = at + 24 * outer;
-    let e = edges(outer, closed);
-    let t = walls(s, at, outer, normal, e, limit, before, NOTHING, vs, ns, is);
-    hole_walls(s, i + 4, holes, first, lid, limit, before, t, vs, ns, is)
+    let n = o.outer as usize;
+    let normal = square_to(s, o.at, n, closed, o.lid);
+    let e = edges(n, closed);
+    let first = o.at + 24 * n;
+    let t = walls(s, o.at, n, normal, e, limit, before, NOTHING, vs, ns, is);
+    hole_walls(
+        s,
+        o.i + 4,
+        o.holes,
+        first,
+        o.lid,
+        limit,
+        before,
+        t,
+        vs,
+        ns,
+        is,
+    )
 }
 
-// The price of an open outline of n corners, and of a closed one whose lid has some triangles.
+// The price of an open outline of n corners.
 fn open_price(outer: u32, n: u32) -> u32
     requires { ⌜ (outer ≤ n) × (n ≤ 512) ⌝ }
     ensures { λ r. ⌜ r ≡ 2 * (outer - 1) + 2 * (n - outer) ⌝ }
@@ -88,14 +99,37 @@ fn open_price(outer: u32, n: u32) -> u32
     2 * (n - 1)
 }
 
-fn closed_price(n: u32, high: bool, triangles: u32) -> u32
-    requires { ⌜ (n ≤ 512) × (triangles ≤ 612) ⌝ }
-    ensures { λ r. ⌜ r ≡ 2 * n + triangles + cond high triangles 0 ⌝ }
+// The outline whose counts are at i.
+fn outline_at(s: &[u8], i: usize, closed: bool, outer: u16, holes: u16) -> OutlineAt
+    requires { ⌜ Placed (now s) i outer holes ⌝ }
+    ensures { λ r. ⌜ r ≡ outlineIn (now (s .entry)) i closed outer holes ⌝ }
 {
-    if high {
-        return 2 * n + triangles + triangles;
+    let h = holes as usize;
+    let at = i + 4 + 2 * h;
+    let o = outer as u32;
+    let n = o + (sum_counts(s, holes, i + 4) as u32);
+    let lid = lid_normal(s, at, outer as usize);
+    if closed {
+        let high = has_height(s, at, n as usize);
+        return OutlineAt {
+            i,
+            at,
+            outer: o,
+            holes: h,
+            n,
+            lid,
+            high,
+        };
     }
-    2 * n + triangles
+    OutlineAt {
+        i,
+        at,
+        outer: o,
+        holes: h,
+        n,
+        lid,
+        high: false,
+    }
 }
 
 // An outline whose counts are at i, with its log.
@@ -115,26 +149,14 @@ pub fn outline(
     requires { ⌜ Placed (now s) i outer holes × (before ≤ 33554432) ⌝ }
     ensures { λ r. ⌜ DrewObject limit (outlineShape (now (s .entry)) i closed outer holes) before (now (vs .entry)) (now (ns .entry)) (now (is .entry)) (now (log .entry)) r (now (vs .exit)) (now (ns .exit)) (now (is .exit)) (now (log .exit)) ⌝ }
 {
-    let c = outer as usize;
-    let h = holes as usize;
-    let o = outer as u32;
-    let at = i + 4 + 2 * h;
-    let n = o + (sum_counts(s, holes, i + 4) as u32);
-    let lid = lid_normal(s, at, c);
-    let t = all_walls(s, i, closed, c, h, lid, limit, before, vs, ns, is);
+    let o = outline_at(s, i, closed, outer, holes);
+    let t = all_walls(s, o, closed, limit, before, vs, ns, is);
     if closed {
-        let high = has_height(s, at, n as usize);
-        let k = cap(s, i, o, h, n, lid, high, limit, before, t, vs, ns, is, log);
-        let tally = k.tally;
-        return Drawn {
-            tally,
-            offered: closed_price(n, high, k.triangles),
-            entries: k.entries,
-        };
+        return cap(s, o, limit, before, t, vs, ns, is, log);
     }
     Drawn {
         tally: t,
-        offered: open_price(o, n),
+        offered: open_price(o.outer, o.n),
         entries: 0,
     }
 }

@@ -1,30 +1,31 @@
 -- `lid_cuts::cut` meets its contract. Assumes nothing.
-use mathlib.Core.Path.{ap, _∙_}
-use Prim.Native.Nat.{ℕ, _+_, _-_}
+use mathlib.Core.Path.{refl, sym}
+use Prim.Native.Nat.{_+_, _-_}
 use native.Mathlib.Omega.{arith}
-use lib.ListN.{length}
+use lib.Seq.{length-take-le}
 use Rattle.scene.proofs.Parts.{counts-length}
-use Rattle.fields.specs.Fields.{countsAt}
-use Rattle.lid_cuts.proofs.FlatLaws.{cut-lid}
+use Rattle.lid_cuts.proofs.FlatLaws.{cut-written}
 use Rattle.lid_cuts.proofs.cut.Statement.{statement}
 use Rattle.lid_cuts.proofs.cut.Tie as tie
 
+lay-flat-requires : tie.Need-lay-flat-requires
+lay-flat-requires c κs = let p = c .before .before .before .before .before .before .before .pre in (omega (arith, p .0 .place, p .0 .all, p .0 .placed .near), p .1)
+
 triangulate-requires : tie.Need-triangulate-requires
 triangulate-requires c κs =
-    let z = c .before .before .before .before .before .before .before .before .before .before .before .before .before .before .before .before .before .before .before .before .before .before in
-    let a = z .args in
-    let e = c .before .before .before .before .before .before .before .read-counts .ensures ∙ ap (λ (h : ℕ). countsAt (a .s .now) h (a .i + 4)) (z .pre .1 .2) in
-    (rw e (z .pre .0 .0 .corners), rw (e, counts-length (a .s .now) (a .holes) (a .i + 4)) (z .pre .0 .0 .few))
+    let a = c .before .before .before .before .before .before .before .before .before .before .before .before .before .before .before .before .before .before .before .before .args in
+    let placed = c .before .before .before .before .before .before .before .before .before .before .before .before .before .before .before .before .before .before .before .before .pre .0 .placed in
+    let e = c .before .before .before .before .before .before .before .read-counts .ensures in
+    (rw e (placed .corners), rw (e, counts-length (a .s .now) (a .o .holes) (a .o .i + 4)) (placed .few))
 
 returns : tie.Need-returns
 returns c =
-    let z = c .before .before .before .before .before .before .before .before .before .before .before .before .before .before .before .before .before .before .before .before .before .before .before .before .before .before .before in
-    let a = z .args in
-    let e = c .before .before .before .before .before .before .before .before .before .before .before .before .read-counts .ensures ∙ ap (λ (h : ℕ). countsAt (a .s .now) h (a .i + 4)) (z .pre .1 .2) in
-    rw (cut-lid (a .s .now) (a .i) (a .outer) (a .holes) (length (a .us .now)) (a .lid) _ _ (z .pre .0 .1) (z .pre .1 .0) (c .before .before .before .before .before .before .before .before .before .before .before .before .before .before .before .before .before .before .lay-flat .ensures) e) at (c .before .before .before .before .triangulate .ensures)
+    let z = c .before .before .before .before .before .before .before .before .before .before .before .before .before .before .before .before .before .before .before .before .before .before .before .before .before in
+    cut-written (z .args .s .now) (z .args .o) _ _ _ (z .pre .0) (c .before .before .before .before .before .before .before .before .before .before .before .before .before .before .before .before .before .lay-flat .ensures) (c .before .before .before .before .before .before .before .before .before .before .before .before .read-counts .ensures) (c .before .before .before .before .triangulate .ensures) refl
 
 pub cut-spec : {M : Type 1} → statement M
 cut-spec =
     tie.close
-    (tie.spec (λ c. omega (arith, c .before .before .before .before .before .before .pre .0 .0 .near)) (λ c. omega (arith, c .before .before .before .before .before .before .pre .0 .0 .near)) (λ c. omega (arith, c .before .before .before .before .before .before .pre .0 .0 .near)) (λ c. omega (arith, c .before .before .before .before .before .before .pre .0 .0 .near)) (λ c κs. (omega (arith, c .before .before .before .before .before .before .before .before .pre .0 .0 .near, c .before .before .before .before .before .before .before .before .pre .1 .0), c .before .before .before .before .before .before .before .before .pre .1 .1)) (λ c. omega (arith, c .before .before .before .before .before .before .before .before .before .before .before .before .before .pre .0 .0 .near))
-    (λ c κs. omega (arith, c .before .before .before .before .before .before .before .before .before .before .before .before .before .before .pre .0 .0 .near, c .before .before .before .before .before .before .before .before .before .before .before .before .before .before .pre .0 .0 .few, c .before .before .before .before .before .before .before .before .before .before .before .before .before .before .pre .1 .2)) triangulate-requires (λ c. c .before .before .before .before .before .before .before .before .before .before .before .before .before .before .before .before .before .us .given) (λ c. c .before .before .before .before .before .before .before .before .before .before .before .before .before .before .before .vs .given) (λ c. c .before .before .before .before .before .before .before .before .before .before .before .counts .given) (λ c. c .before .before .before .log .given) (λ c. c .before .triangles .given) returns)
+    (tie.spec (λ c. omega (arith, c .before .before .before .before .before .pre .0 .all, c .before .before .before .before .before .pre .0 .placed .corners)) (λ c. omega (arith, c .before .before .before .before .before .before .pre .0 .place, c .before .before .before .before .before .before .pre .0 .placed .near)) lay-flat-requires (λ c. omega (arith, c .before .before .before .before .before .before .before .before .before .before .before .pre .0 .placed .near)) (λ c. refl)
+    (λ c κs. (omega (arith, c .before .before .before .before .before .before .before .before .before .before .before .before .pre .0 .placed .near, c .before .before .before .before .before .before .before .before .before .before .before .before .pre .0 .placed .few), omega (arith, c .before .before .before .before .before .before .before .before .before .before .before .before .pre .0 .placed .few))) (λ c. sym (length-take-le _ _ (omega (arith, c .before .before .before .before .before .before .before .before .before .before .before .before .before .before .before .before .pre .1, c .before .before .before .before .before .before .before .room .given)))) (λ c. omega (arith, c .before .before .before .before .before .before .before .before .before .before .before .before .before .before .before .before .pre .0 .all, c .before .before .before .before .before .before .before .before .before .before .before .before .before .before .before .before .pre .0 .placed .corners)) (λ c. omega (arith, c .before .before .before .before .before .before .before .before .before .before .before .before .before .before .before .before .pre .1, c .before .before .before .before .before .before .before .room .given)) (λ c. omega (arith, c .before .before .before .before .before .before .before .before .before .before .before .before .before .before .before .before .pre .1, c .before .before .before .before .before .before .before .room .given)) (λ c. omega (arith, c .before .before .before .before .before .before .before .before .before .before .before .before .before .before .before .before .pre .1, c .before .before .before .before .before .before .before .room .given))
+    (λ c. omega (arith, c .before .before .before .before .before .before .before .before .before .before .before .before .before .before .before .before .before .pre .0 .placed .few, c .before .before .before .counts2 .given)) (λ c. sym (length-take-le _ _ (omega (arith, c .before .before .before .before .before .before .before .before .before .before .before .before .before .before .before .before .before .before .pre .0 .placed .few, c .before .before .before .before .counts2 .given)))) triangulate-requires (λ c. c .before .before .before .before .before .before .before .before .before .before .before .before .before .before .before .before .room .given) (λ c. c .before .before .before .log .given) (λ c. c .before .triangles .given) returns)

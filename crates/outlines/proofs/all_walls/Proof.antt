@@ -4,35 +4,38 @@ use Prim.Native.Nat.{_+_, _-_}
 use native.Mathlib.Omega.{arith}
 use Rattle.face.proofs.Draws.{then, room-less}
 use Rattle.walls.proofs.WallLaws.{start-room, outer-room}
-use Rattle.lid_plane.specs.Outlines.{cornersOf, holeCorners}
+use Rattle.lid_plane.specs.Outlines.{holeCorners}
 use Rattle.outlines.proofs.OutlineLaws.{few-edges, outer-drew}
 use Rattle.outlines.proofs.all_walls.Statement.{statement}
 use Rattle.outlines.proofs.all_walls.Tie as tie
 
 walls-requires : tie.Need-walls-requires
 walls-requires c κs =
-    let z = c .before .before .before .before .before .before .before .before .before in
+    let z = c .before .before .before .before .before .before .before .before .before .before .before in
     let a = z .args in
-    let few = few-edges (a .closed) (a .outer) _ (c .before .before .before .edges .ensures) in
-    (omega (arith, z .pre .0 .near), few, room-less (start-room (a .before) (a .outer) (z .pre .1) (omega (arith, z .pre .0 .corners))) (omega (arith, few)) (omega (arith, few)))
+    let m = z .pre .0 in
+    let few = few-edges (a .closed) (a .o .outer) _ (c .before .before .before .before .edges .ensures) in
+    (omega (arith, m .place, m .placed .near), few, room-less (start-room (a .before) (a .o .outer) (z .pre .1) (omega (arith, m .placed .corners))) (omega (arith, few)) (omega (arith, few)))
 
 hole-walls-requires : tie.Need-hole-walls-requires
 hole-walls-requires c κs =
-    let z = c .before .before .before .before .before .before .before .before .before .before .before .before .before .before .before .before .before .before .before in
+    let z = c .before .before .before .before .before .before .before .before .before .before .before .before .before .before .before .before .before .before .before .before .before .before in
     let a = z .args in
     let s = a .s .now in
-    let at = cornersOf (a .i) (a .holes) in
-    let inner = holeCorners s (a .i) (a .holes) in
-    let drew = outer-drew (a .closed) s (a .outer) at (a .lid) (c .before .before .before .before .before .before .before .before .before .before .before .before .before .before .square-to .ensures) (c .before .before .before .before .before .before .before .before .before .before .before .before .before .edges .ensures) (c .before .before .before .before .before .before .before .before .before .walls .ensures) in
-    ((omega arith, omega (arith, z .pre .0 .near)), outer-room s (a .outer) at (a .closed) (a .lid) (a .outer + inner) inner (start-room (a .before) _ (z .pre .1) (z .pre .0 .corners)) drew (omega arith))
+    let o = a .o in
+    let m = z .pre .0 in
+    let inner = holeCorners s (o .i) (o .holes) in
+    let drew = outer-drew (a .closed) s (o .outer) (o .at) (o .lid) (c .before .before .before .before .before .before .before .before .before .before .before .before .before .before .before .before .square-to .ensures) (c .before .before .before .before .before .before .before .before .before .before .before .before .before .before .before .edges .ensures) (c .before .before .before .before .before .before .before .before .before .before .walls .ensures) in
+    ((omega (arith, m .place), omega (arith, m .place, m .placed .near)), outer-room s (o .outer) (o .at) (a .closed) (o .lid) (o .outer + inner) inner (start-room (a .before) _ (z .pre .1) (m .placed .corners)) drew (omega arith))
 
 returns : tie.Need-returns
 returns c =
-    let a = c .before .before .before .before .before .before .before .before .before .before .before .before .before .before .before .before .before .before .before .before .before .before .before .before .before .before .args in
-    then (a .limit) (outer-drew (a .closed) (a .s .now) (a .outer) (cornersOf (a .i) (a .holes)) (a .lid) (c .before .before .before .before .before .before .before .before .before .before .before .before .before .before .before .before .before .before .before .before .before .square-to .ensures) (c .before .before .before .before .before .before .before .before .before .before .before .before .before .before .before .before .before .before .before .before .edges .ensures) (c .before .before .before .before .before .before .before .before .before .before .before .before .before .before .before .before .walls .ensures)) (c .before .before .before .before .before .before .hole-walls .ensures)
+    let a = c .before .before .before .before .before .before .before .before .before .before .before .before .before .before .before .before .before .before .before .before .before .before .before .before .before .before .before .before .before .args in
+    let o = a .o in
+    then (a .limit) (outer-drew (a .closed) (a .s .now) (o .outer) (o .at) (o .lid) (c .before .before .before .before .before .before .before .before .before .before .before .before .before .before .before .before .before .before .before .before .before .before .before .square-to .ensures) (c .before .before .before .before .before .before .before .before .before .before .before .before .before .before .before .before .before .before .before .before .before .before .edges .ensures) (c .before .before .before .before .before .before .before .before .before .before .before .before .before .before .before .before .before .walls .ensures)) (c .before .before .before .before .before .before .hole-walls .ensures)
 
 pub all-walls-spec : {M : Type 1} → statement M
 all-walls-spec =
     tie.close
-    (tie.spec (λ c. omega (arith, c .before .before .before .before .pre .0 .near)) (λ c. omega (arith, c .before .before .before .before .pre .0 .near)) (λ c. omega (arith, c .before .before .before .before .pre .0 .near)) (λ c κs. omega (arith, c .before .before .before .before .pre .0 .near)) (λ c. omega (arith, c .before .before .before .before .before .pre .0 .near)) (λ c. omega (arith, c .before .before .before .before .before .pre .0 .near)) (λ c κs. tt) walls-requires
-    (λ c. omega (arith, c .before .before .before .before .before .before .before .before .before .before .before .before .before .before .before .before .pre .0 .near)) hole-walls-requires (λ c. c .before .before .before .before .before .vs2 .given ∙ c .before .before .before .before .before .before .before .before .before .before .before .before .before .before .before .vs .given) (λ c. c .before .before .before .ns2 .given ∙ c .before .before .before .before .before .before .before .before .before .before .before .before .before .ns .given) (λ c. c .before .is2 .given ∙ c .before .before .before .before .before .before .before .before .before .before .before .is .given) returns)
+    (tie.spec (λ c. omega (arith, c .before .before .before .before .before .pre .0 .placed .corners)) (λ c κs. omega (arith, c .before .before .before .before .before .pre .0 .place, c .before .before .before .before .before .pre .0 .placed .near)) (λ c κs. tt) (λ c. omega (arith, c .before .before .before .before .before .before .before .pre .0 .placed .corners)) (λ c. omega (arith, c .before .before .before .before .before .before .before .before .pre .0 .place, c .before .before .before .before .before .before .before .before .pre .0 .placed .near)) walls-requires
+    (λ c. omega (arith, c .before .before .before .before .before .before .before .before .before .before .before .before .before .before .before .before .before .before .before .pre .0 .placed .near)) hole-walls-requires (λ c. c .before .before .before .before .before .vs2 .given ∙ c .before .before .before .before .before .before .before .before .before .before .before .before .before .before .before .before .vs .given) (λ c. c .before .before .before .ns2 .given ∙ c .before .before .before .before .before .before .before .before .before .before .before .before .before .before .ns .given) (λ c. c .before .is2 .given ∙ c .before .before .before .before .before .before .before .before .before .before .before .before .is .given) returns)

@@ -1,9 +1,9 @@
--- `outlines::closed_price` meets its contract. Assumes nothing.
+-- `lid_faces::closed_price` meets its contract. Assumes nothing.
 use Prim.Native.Nat.{_-_}
 use native.Mathlib.Omega.{arith}
 use borrow.Author.Needs.{needs}
-use Rattle.outlines.proofs.closed_price.Statement.{statement}
-use Rattle.outlines.proofs.closed_price.Tie as tie
+use Rattle.lid_faces.proofs.closed_price.Statement.{statement}
+use Rattle.lid_faces.proofs.closed_price.Tie as tie
 
 returns : tie.Need-returns
 returns c = rw (c .if1 .taken)
