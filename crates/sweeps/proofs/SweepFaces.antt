@@ -54,17 +54,17 @@ module _ (a b : Section) {limit : Float} {before : ℕ} {out : Vector} {thinA th
   unfolding pairFaces
   thin-pair t = rw (both isA isB t, ← side) left
 
-  module _ (t : thinA && thinB ≡ false) {back up : Vector} {flatA flatB : Bool} (behind : back ≡ negate out) (above : up ≡ unitZ) (onA : flatA ≡ isFlatSection a) (onB : flatB ≡ isFlatSection b) {d₂ d₃ : Drawing}
+  module _ (t : thinA && thinB ≡ false) {back : Vector} {flatA flatB : Bool} (behind : back ≡ negate out) (onA : flatA ≡ isFlatSection a) (onB : flatB ≡ isFlatSection b) {d₂ d₃ : Drawing}
       (right : Drew limit (quad 1 (a .right .base) (b .right .base) (b .right .top) (a .right .top) back ∷ []) before d₁ d₂)
-      (top : Drew limit (quad 1 (a .left .top) (b .left .top) (b .right .top) (a .right .top) up ∷ []) before d₂ d₃) where
+      (top : Drew limit (quad 1 (a .left .top) (b .left .top) (b .right .top) (a .right .top) unitZ ∷ []) before d₂ d₃) where
     pub flat-pair : flatA && flatB ≡ true → Drew limit (pairFaces a b) before d d₃
     unfolding pairFaces
-    flat-pair f = rw (both isA isB t, both onA onB f, ← side, ← behind, ← above) (then limit left (then limit right top))
+    flat-pair f = rw (both isA isB t, both onA onB f, ← side, ← behind) (then limit left (then limit right top))
 
-    pub whole-pair : {down : Vector} {d₄ : Drawing} → flatA && flatB ≡ false → down ≡ negate up
+    pub whole-pair : {down : Vector} {d₄ : Drawing} → flatA && flatB ≡ false → down ≡ negate unitZ
         → Drew limit (quad 1 (a .left .base) (b .left .base) (b .right .base) (a .right .base) down ∷ []) before d₃ d₄ → Drew limit (pairFaces a b) before d d₄
     unfolding pairFaces
-    whole-pair f below floor = rw (both isA isB t, both onA onB f, ← side, ← behind, ← above, ← below) (then limit left (then limit right (then limit top floor)))
+    whole-pair f below floor = rw (both isA isB t, both onA onB f, ← side, ← behind, ← below) (then limit left (then limit right (then limit top floor)))
 
 module _ (s : List ℕ) (at : ℕ) where
   pub sweep-none : (n : ℕ) → n ≡ 0 → sweepFaces (sectionsAt s n at) ≡ []

@@ -26,7 +26,11 @@ fn side_direction(a: Point, b: Point) -> Vector
     ensures { λ r. ⌜ r ≡ vector (neg (diff b a .y)) (diff b a .x) zerof ⌝ }
 {
     let along = b.sub(a);
-    Vector::new(-along.y, along.x, 0.0)
+    Vector {
+        x: -along.y,
+        y: along.x,
+        z: 0.0,
+    }
 }
 
 // The faces between two sections.
@@ -73,13 +77,12 @@ fn pair(
         ns,
         is,
     );
-    let up = Vector::new(0.0, 0.0, 1.0);
     let x = quad(
         a.left.top,
         b.left.top,
         b.right.top,
         a.right.top,
-        up,
+        Vector::Z,
         limit,
         before,
         w,
@@ -95,7 +98,7 @@ fn pair(
         b.left.base,
         b.right.base,
         a.right.base,
-        up.neg(),
+        Vector::Z.neg(),
         limit,
         before,
         x,

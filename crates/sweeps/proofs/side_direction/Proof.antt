@@ -5,7 +5,7 @@ use Rattle.sweeps.proofs.side_direction.Statement.{statement}
 use Rattle.sweeps.proofs.side_direction.Tie as tie
 
 returns : tie.Need-returns
-returns c = rw (← c .before .before .sub .ensures) (c .new .ensures)
+returns c = rw (← c .before .sub .ensures)
 
 pub side-direction-spec : {M : Type 1} → statement M
-side-direction-spec = tie.close (tie.spec (λ c κs. search needs) (λ c κs. search needs) returns)
+side-direction-spec = tie.close (tie.spec (λ c κs. search needs) returns)
