@@ -1,12 +1,12 @@
 // The price of a sweep and of a round sweep.
 ghost use mathlib.Core.Path.{_≡_};
 ghost use mathlib.Core.List.{List};
-ghost use Prim.Native.Nat.{_+_, _*_, _-_, _<_, _≤_};
+ghost use Prim.Native.Nat.{_+_, _*_, _≤_};
 ghost use lib.ListN.{length};
 ghost use Rattle.object.specs.declared.Section.{Section};
 ghost use Rattle.object.specs.Object.{sweep, roundSweep};
 ghost use Rattle.fields.specs.Fields.{sectionsAt};
-ghost use Rattle.shapes.specs.Price.{pairPrice, pairsPrice, offered};
+ghost use Rattle.shapes.specs.Price.{pairPrice, offered};
 use geometry::section_at;
 use object::Section;
 use sections::is_flat;
@@ -25,11 +25,14 @@ fn pair_price(a: Section, b: Section) -> u32
     8
 }
 
-// Of all neighbours.
-fn pairs_price(s: &[u8], at: usize, n: usize) -> u32
-    requires { ⌜ (0 < n) × (n ≤ 4096) × (at + 48 * n ≤ length (now s)) ⌝ }
-    ensures { λ r. ⌜ (r ≡ pairsPrice (sectionsAt (now (s .entry)) n at)) × (r ≤ 8 * n) ⌝ }
+// Of the sweep of the n sections from place `at` on.
+pub fn sweep_price(s: &[u8], at: usize, n: usize) -> u32
+    requires { ⌜ (n ≤ 4096) × (at + 48 * n ≤ length (now s)) ⌝ }
+    ensures { λ r. ⌜ r ≡ offered (sweep (sectionsAt (now (s .entry)) n at)) ⌝ }
 {
+    if n == 0 {
+        return 0;
+    }
     let mut a = section_at(s, at);
     let mut sum: u32 = 0;
     let mut k = 0;
@@ -39,18 +42,7 @@ fn pairs_price(s: &[u8], at: usize, n: usize) -> u32
         a = b;
         k = k + 1;
     }
-    sum
-}
-
-// Of the sweep of the n sections from place `at` on.
-pub fn sweep_price(s: &[u8], at: usize, n: usize) -> u32
-    requires { ⌜ (n ≤ 4096) × (at + 48 * n ≤ length (now s)) ⌝ }
-    ensures { λ r. ⌜ r ≡ offered (sweep (sectionsAt (now (s .entry)) n at)) ⌝ }
-{
-    if n == 0 {
-        return 0;
-    }
-    pairs_price(s, at, n) + 4
+    sum + 4
 }
 
 // Of a round sweep of n sections.
