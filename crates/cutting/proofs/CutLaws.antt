@@ -29,6 +29,9 @@ ears-few (e ∷ es) = go (eqb (e .mark) 1) (ears-few es)
     go true h = omega arith
     go false h = omega arith
 
+pub clip-room : (n long : ℕ) → n + long + 1 < 2 ^ 32 → n + long < 2 ^ 32
+clip-room n long room = omega arith
+
 -- what `cut_ring` does after `clip`
 module _ (fs : List Flat) (ring ring′ log log₁ : List ℕ) (n : ℕ) (triangles triangles₁ : List ℕ) (c : Clipped)
     (clipped : Clips (clip fs (length ring) ring) ring′ log log₁ n triangles triangles₁ c) where

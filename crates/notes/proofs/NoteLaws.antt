@@ -38,7 +38,7 @@ kept-is w b u = go (eqb w b) refl u
     go true e u = absurd (u refl)
     go false e u = (rw e, eqb-false w b e)
 
-pub forgot-near : (ring old mid : List ℕ) (i h j : ℕ) → length old ≡ length ring → length mid ≡ length old → h < length ring → j < length ring → h ≡ previous (length ring) i → j ≡ next (length ring) i
+forgot-near : (ring old mid : List ℕ) (i h j : ℕ) → length old ≡ length ring → length mid ≡ length old → h < length ring → j < length ring → h ≡ previous (length ring) i → j ≡ next (length ring) i
     → Kept (getD ring i 0) old mid → Loose ring i old (set (set mid h unknown) j unknown)
 forgot-near ring old mid i h j lo lm hh hj ph pj kept = record { loose = λ k hk u. one k hk u }
   where
@@ -53,7 +53,7 @@ forgot-near ring old mid i h j lo lm hh hj ph pj kept = record { loose = λ k hk
         record { same = y ∙ z .0; off-previous = λ q. no-h (q ∙ sym ph); off-next = λ q. no-j (q ∙ sym pj); other = λ q. z .1 (sym (y ∙ z .0) ∙ q) }
 
 -- what was left, without place i
-pub forgot-moved : (ring old mid new : List ℕ) (i : ℕ) → i < length ring → length mid ≡ length ring → Loose ring i old mid → take (length mid - 1) new ≡ removeAt i mid → Forgot ring i old new
+forgot-moved : (ring old mid new : List ℕ) (i : ℕ) → i < length ring → length mid ≡ length ring → Loose ring i old mid → take (length mid - 1) new ≡ removeAt i mid → Forgot ring i old new
 forgot-moved ring old mid new i hi lm loose removed =
     record {
       low = λ k g u. let e = read k (omega arith) ∙ rem-low mid i k (omega arith) g in rw e (loose .loose k (omega arith) (λ z. u (e ∙ z)));
@@ -62,6 +62,17 @@ forgot-moved ring old mid new i hi lm loose removed =
   where
     read : (k : ℕ) → k < length mid - 1 → getD new k 0 ≡ getD (removeAt i mid) k 0
     read k hk = sym (getD-take (length mid - 1) new k 0 hk) ∙ ap (λ (l : List ℕ). getD l k 0) removed
+
+pub near-kept : (mid : List ℕ) (h j : ℕ) {n : ℕ} → length mid ≡ n → length (set (set mid h unknown) j unknown) ≡ n
+near-kept mid h j e = length-set (set mid h unknown) j unknown ∙ length-set mid h unknown ∙ e
+
+pub in-notes : {h ring old mid : ℕ} → h < ring → old ≡ ring → mid ≡ old → h < mid
+in-notes low same kept = omega arith
+
+pub forgot-whole : (ring old mid new : List ℕ) (i h j : ℕ) → i < length ring → length old ≡ length ring → length mid ≡ length old → h < length ring → j < length ring → h ≡ previous (length ring) i → j ≡ next (length ring) i
+    → Kept (getD ring i 0) old mid → take (length (set (set mid h unknown) j unknown) - 1) new ≡ removeAt i (set (set mid h unknown) j unknown) → Forgot ring i old new
+forgot-whole ring old mid new i h j hi lo lm hh hj ph pj kept removed =
+    forgot-moved ring old (set (set mid h unknown) j unknown) new i hi (near-kept mid h j (lm ∙ lo)) (forgot-near ring old mid i h j lo lm hh hj ph pj kept) removed
 
 -- ---- the loops of `forget_named` and `forget_all`: places below k are done
 

@@ -2,7 +2,7 @@
 ghost use mathlib.Core.Path.{_≡_};
 ghost use Prim.Native.Nat.{_<_};
 ghost use lib.ListN.{length};
-ghost use Rattle.notes.specs.Notes.{Blank, keptOf, Kept, Loose, Forgot};
+ghost use Rattle.notes.specs.Notes.{Blank, keptOf, Kept, Forgot};
 use lid::CornerNumber;
 use lid::RingPlace;
 use places::place_after;
@@ -45,11 +45,11 @@ fn forget_named(why: &mut [u32], b: CornerNumber)
     }
 }
 
-// Forgets what the removal of the corner at a place may change: the notes of its neighbours and those that name it.
-fn forget_near(ring: &[u32], why: &mut [u32], at: RingPlace)
+// The notes where the corner at a place is removed: forgets what that may change, which is the notes of its neighbours and those that name it.
+pub fn forget(ring: &[u32], why: &mut [u32], at: RingPlace)
     requires { ⌜ at .0 < length (now ring) ⌝ }
     requires { ⌜ length (now why) ≡ length (now ring) ⌝ }
-    ensures { λ _. ⌜ Loose (now (ring .entry)) (at .0) (now (why .entry)) (now (why .exit)) ⌝ }
+    ensures { λ _. ⌜ Forgot (now (ring .entry)) (at .0) (now (why .entry)) (now (why .exit)) ⌝ }
 {
     let n = ring.len();
     let i = at.0;
@@ -58,14 +58,5 @@ fn forget_near(ring: &[u32], why: &mut [u32], at: RingPlace)
     forget_named(why, CornerNumber(ring[i]));
     why[h] = UNKNOWN;
     why[j] = UNKNOWN;
-}
-
-// The notes where the corner at a place is removed.
-pub fn forget(ring: &[u32], why: &mut [u32], at: RingPlace)
-    requires { ⌜ at .0 < length (now ring) ⌝ }
-    requires { ⌜ length (now why) ≡ length (now ring) ⌝ }
-    ensures { λ _. ⌜ Forgot (now (ring .entry)) (at .0) (now (why .entry)) (now (why .exit)) ⌝ }
-{
-    forget_near(ring, why, at);
     remove(why, at);
 }

@@ -1,9 +1,9 @@
 -- `cutting::cut_ring` meets its contract. Assumes nothing.
-use mathlib.Core.Path.{sym}
+use mathlib.Core.Path.{sym, _∙_}
 use Prim.Native.Nat.{_-_}
+use lib.ListN.{length}
 use lib.Seq.{length-take-le}
-use borrow.Author.Needs.{needs}
-use Rattle.cutting.proofs.CutLaws.{left-in, left-room, ears-room, sum-room, cut-draws}
+use Rattle.cutting.proofs.CutLaws.{clip-room, left-in, left-room, ears-room, sum-room, cut-draws}
 use Rattle.lid.specs.Rings.{flats}
 use Rattle.cutting.proofs.cut_ring.Statement.{statement}
 use Rattle.cutting.proofs.cut_ring.Tie as tie
@@ -54,9 +54,22 @@ returns c =
     let a = c .before .before .before .before .before .before .before .before .before .before .before .before .before .before .before .before .before .before .before .before .before .before .before .before .before .before .before .before .before .before .args in
     cut-draws (flats (now (a .us)) (now (a .vs))) (now (a .ring)) (c .before .before .before .before .before .before .before .before .before .before .before .before .before .before .before .before .before .before .before .clip .last .1 .1 .0) (now (a .log)) (c .before .before .before .before .before .before .before .before .before .before .before .before .before .before .before .before .before .before .before .clip .last .1 .1 .1 .1 .0) (a .n) (now (a .triangles)) (c .before .before .before .before .before .before .before .before .before .before .before .before .before .before .before .before .before .before .before .clip .last .1 .1 .1 .1 .1 .1 .0) (c .before .before .before .before .before .before .before .before .before .before .before .before .before .before .before .before .before .before .before .clip .result) (c .before .before .before .before .before .before .before .before .before .before .before .before .before .before .before .before .before .before .before .clip .ensures) (c .before .before .before .before .before .before .before .before .put-left .last .1 .0) (c .before .before .before .put-last .last .1 .1 .1 .0) (c .before .before .before .put-last .result) (c .before .before .before .before .before .before .before .before .put-left .ensures) (c .before .before .before .put-last .ensures .1) (c .before .before .before .put-last .ensures .0)
 
+clip-requires : tie.Need-clip-requires
+clip-requires c κs = (clip-room (c .before .before .before .before .before .before .before .before .before .before .args .n) (length (now (c .before .before .before .before .before .before .before .before .before .before .args .ring))) (c .before .before .before .before .before .before .before .before .before .before .pre .0), c .before .before .before .before .before .before .before .before .before .before .pre .1)
+
+same-length : tie.Need-same-length
+same-length c = c .before .before .before .before .before .before .before .before .before .before .before .before .before .before .before .before .before .before .before .clip .kept .1 .1 .0
+
+same-length-2 : tie.Need-same-length-2
+same-length-2 c = c .before .before .before .before .before .before .before .before .before .before .before .before .before .before .before .before .before .before .before .clip .kept .1 .1 .1 .0
+
+same-length-3 : tie.Need-same-length-3
+same-length-3 c = c .before .before .before .before .before .before .before .before .put-left .kept .1 .0 ∙ c .before .before .before .before .before .before .before .before .before .before .before .before .before .before .before .before .before .before .before .clip .kept .1 .1 .1 .1 .0
+
+same-length-4 : tie.Need-same-length-4
+same-length-4 c = c .before .before .before .put-last .kept .1 .1 .1 .0 ∙ c .before .before .before .before .before .before .before .before .before .before .before .before .before .before .before .before .before .before .before .clip .kept .1 .1 .1 .1 .1 .1 .0
+
 pub cut-ring-spec : {M : Type 1} → statement M
 cut-ring-spec =
     tie.close
-    (tie.spec (λ c κs. search needs) slice-reshare-prefix-put-left slice-aggregate-put-left put-left-requires slice-reshare-prefix-put-last
-    slice-aggregate-put-last put-last-requires cast-t28 add-t29 (λ c. search needs) (λ c. search needs) (λ c. search needs) (λ c. search needs)
-    returns)
+    (tie.spec clip-requires slice-reshare-prefix-put-left slice-aggregate-put-left put-left-requires slice-reshare-prefix-put-last slice-aggregate-put-last put-last-requires cast-t28 add-t29 same-length same-length-2 same-length-3 same-length-4 returns)

@@ -23,8 +23,13 @@ returns-3 : tie.Need-returns-3
 unfolding lastTriangle turnOf triangleNumbers join
 returns-3 c = rw (eq-eqb _ _ (c .before .before .before .before .before .before .before .before .if1 .left), ← c .before .before .before .before .flat-at .ensures, ← c .before .before .before .flat-at2 .ensures, ← c .before .before .flat-at3 .ensures, ← c .before .turn .ensures, c .if2 .left) (sym (add-zero (c .before .before .before .before .before .before .before .before .before .before .before .before .before .args .count)), refl)
 
+add-result : tie.Need-add-result
+add-result c = record { fits = c .before .before .before .before .before .before .before .before .before .before .before .before .before .before .before .before .before .pre }
+
+same-length : tie.Need-same-length
+same-length c = c .before .before .put-triangle .kept .0
+
 pub put-last-spec : {M : Type 1} → statement M
 put-last-spec =
     tie.close
-    (tie.spec returns (λ c. search needs) (λ c. search needs) (λ c. search needs) (λ c κs. search needs) (λ c κs. search needs) (λ c κs. search needs)
-    (λ c κs. search needs) (λ c κs. search needs) (λ c. search needs) (λ c. search needs) returns-2 returns-3)
+    (tie.spec returns (λ c. search needs) (λ c. search needs) (λ c. search needs) (λ c κs. search needs) (λ c κs. search needs) (λ c κs. search needs) (λ c κs. search needs) (λ c κs. search needs) add-result same-length returns-2 returns-3)
