@@ -63,7 +63,7 @@ forgot-moved ring old mid new i hi lm loose removed =
     read : (k : ℕ) → k < length mid - 1 → getD new k 0 ≡ getD (removeAt i mid) k 0
     read k hk = sym (getD-take (length mid - 1) new k 0 hk) ∙ ap (λ (l : List ℕ). getD l k 0) removed
 
-pub near-kept : (mid : List ℕ) (h j : ℕ) {n : ℕ} → length mid ≡ n → length (set (set mid h unknown) j unknown) ≡ n
+near-kept : (mid : List ℕ) (h j : ℕ) {n : ℕ} → length mid ≡ n → length (set (set mid h unknown) j unknown) ≡ n
 near-kept mid h j e = length-set (set mid h unknown) j unknown ∙ length-set mid h unknown ∙ e
 
 pub in-notes : {h ring old mid : ℕ} → h < ring → old ≡ ring → mid ≡ old → h < mid
