@@ -7,9 +7,9 @@ use Rattle.lid.specs.Bridges.{rightmost, passes, meets, noNearer, hitEdg
 use Rattle.lid.specs.Clipping.{clear, isEar, isStraight, cutStraight, cutEar, clipStep, clipBy, clip}
 use Rattle.lid.specs.Lid.{earsOf, lastTriangle, lidFrom, lidRings, lidOf, oneMore, lidPrice}
 use Rattle.lid.specs.Written.{triangleNumbers}
-use Rattle.lid.specs.Steps.{insertAt, insertAll}
+use Rattle.lid.specs.Steps.{insertAt}
 use Rattle.lid.specs.Areas.{whole, exactTurn, exactArea, fanArea, ringArea, outerTerm, joinedTerm, markedTerm, leftTerm}
 
 unfoldable pub computes : Unit {0}
-unfolding lt eq le ne topsOf basesOf areaNormal rise lidSide lidNormal about firstAxis flatten logNumbers entriesIn isMark leftOver logged flats corner turn turnOf area tooSmall turnOuter turnHole ringsFrom holesFrom skippedFrom right insert inOrder rightmost passes meets noNearer hitEdge hitAt firstHit inside slopeOf seenAt visible sitsIn isCopy orElse copyOf bridgeAt bridge splice spliced bridgeEntry joinAll clear isEar isStraight cutStraight cutEar clipStep clipBy clip earsOf lastTriangle lidFrom lidRings lidOf oneMore lidPrice triangleNumbers insertAt insertAll whole exactTurn exactArea fanArea ringArea outerTerm joinedTerm markedTerm leftTerm
+unfolding lt eq le ne topsOf basesOf areaNormal rise lidSide lidNormal about firstAxis flatten logNumbers entriesIn isMark leftOver logged flats corner turn turnOf area tooSmall turnOuter turnHole ringsFrom holesFrom skippedFrom right insert inOrder rightmost passes meets noNearer hitEdge hitAt firstHit inside slopeOf seenAt visible sitsIn isCopy orElse copyOf bridgeAt bridge splice spliced bridgeEntry joinAll clear isEar isStraight cutStraight cutEar clipStep clipBy clip earsOf lastTriangle lidFrom lidRings lidOf oneMore lidPrice triangleNumbers insertAt whole exactTurn exactArea fanArea ringArea outerTerm joinedTerm markedTerm leftTerm
 computes = tt

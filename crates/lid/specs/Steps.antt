@@ -72,9 +72,6 @@ pub record Clips (k : Logged) (ring′ log log′ : List ℕ) (n : ℕ) (triangl
 unfoldable pub insertAt : ℕ → ℕ → List ℕ → List ℕ
 insertAt i v l = take i l ++ v ∷ drop i l
 
-unfoldable pub insertAll : ℕ → List ℕ → List ℕ → List ℕ
-insertAll i vs l = take i l ++ vs ++ drop i l
-
 -- ---- the plane, corner by corner
 
 -- `areaNormalStep` at the corners p and q of a polygon, the first of which is `first`

@@ -15,12 +15,6 @@ use plane::area_normal_step;
 use plane::rise_step;
 use vectors::Vector;
 
-const ZERO: Vector = Vector {
-    x: 0.0,
-    y: 0.0,
-    z: 0.0,
-};
-
 // An outline where it lies: its counts are at `i` and its corners, n in all, at `at`. `lid` is the
 // normal of its lid, and `high` tells whether a closed one has a floor.
 pub struct OutlineAt {
@@ -51,7 +45,7 @@ fn area_normal(s: &[u8], at: usize, n: usize) -> Vector
 {
     let first = point_at(s, at);
     let mut p = first;
-    let mut sum = ZERO;
+    let mut sum = Vector::ZERO;
     let mut k = 0;
     while k < n {
         let q = point_at(s, next_place(at, n, k));
@@ -69,8 +63,8 @@ pub fn lid_normal(s: &[u8], at: usize, n: usize) -> Vector
 {
     let mut a = corner_at(s, at);
     let first = a.top;
-    let mut area = ZERO;
-    let mut rise = ZERO;
+    let mut area = Vector::ZERO;
+    let mut rise = Vector::ZERO;
     let mut k = 0;
     while k < n {
         let b = corner_at(s, next_place(at, n, k));

@@ -10,10 +10,10 @@ use borrow.Author.Tests.{lt-ltb, le-ltb, ne-eqb}
 use Rattle.lists.specs.Loops.{list, sumOf}
 use Rattle.object.specs.declared.Section.{Section}
 use Rattle.object.specs.declared.Extent.{Extent}
-use Rattle.object.specs.Object.{Shape, solid, outline, Object}
-use Rattle.scene.specs.declared.Refusal.the-variants.{Past, Kind, Counts, Numbers}
-use Rattle.fields.specs.Fields.{u16At, u32At, pointAt, orientationAt, cornersAt, sectionsAt, countsAt, holesAt, all32, all64}
-use Rattle.scene.specs.Scene.{Record, bad, good, rest, solidAt, outlineCorners, outlineAt, sweepAt, kindAt, recordAt}
+use Rattle.object.specs.Object.{Shape}
+use Rattle.scene.specs.declared.Refusal.the-variants.{Past, Kind, Counts}
+use Rattle.fields.specs.Fields.{u16At, u32At, countsAt}
+use Rattle.scene.specs.Scene.{Record, bad, rest, solidAt, outlineCorners, outlineAt, sweepAt, kindAt, recordAt}
 use Rattle.scene.specs.declared.records.RecordEnd.{RecordEnd}
 use Rattle.scene.specs.Answers.{endOf}
 use Rattle.fields.proofs.Fields.{u16-past}
@@ -29,30 +29,9 @@ room e i n l h = le-ltb e (i + n) (omega arith)
 -- ---- a solid
 
 module _ (s : List ℕ) (e id i w : ℕ) (x : Extent) where
-  abbrev described : Object
-  described = record { id = id; shape = solid (pointAt s i) (orientationAt s (i + 12)) x }
-
   pub solid-past : e - i < 60 + 4 * w → bad Past ≡ solidAt s e id i w x
   unfolding solidAt rest
   solid-past h = rw (past e i (60 + 4 * w) h)
-
-  module _ (l : i ≤ e) (h : 60 + 4 * w ≤ e - i) where
-    -- the position, then the orientation, then the sizes are not allowed
-    pub solid-position : all32 s 3 i ≡ false → bad Numbers ≡ solidAt s e id i w x
-    unfolding solidAt rest
-    solid-position p = rw (room e i (60 + 4 * w) l h, p)
-
-    pub solid-orientation : all32 s 3 i ≡ true → all64 s 6 (i + 12) ≡ false → bad Numbers ≡ solidAt s e id i w x
-    unfolding solidAt rest
-    solid-orientation p q = rw (room e i (60 + 4 * w) l h, p, q)
-
-    pub solid-sizes : all32 s 3 i ≡ true → all64 s 6 (i + 12) ≡ true → all32 s w (i + 60) ≡ false → bad Numbers ≡ solidAt s e id i w x
-    unfolding solidAt rest
-    solid-sizes p q r = rw (room e i (60 + 4 * w) l h, p, q, r)
-
-    pub solid-good : all32 s 3 i ≡ true → all64 s 6 (i + 12) ≡ true → all32 s w (i + 60) ≡ true → good described (i + (60 + 4 * w)) ≡ solidAt s e id i w x
-    unfolding solidAt rest
-    solid-good p q r = rw (room e i (60 + 4 * w) l h, p, q, r)
 
 -- ---- an outline
 
@@ -68,25 +47,9 @@ counts-past s n i h = zeros n 0
     zeros (suc m) k = omega (arith, u16-past s (i + 2 * k) (further (length s) i k h), zeros m (suc k))
 
 module _ (s : List ℕ) (e id : ℕ) (closed : Bool) (c : ℕ) (counts : List ℕ) (i n : ℕ) (total : n ≡ c + sumOf (λ k. k) counts) where
-  abbrev drawn : Object
-  drawn = record { id = id; shape = outline closed (cornersAt s c i) (holesAt s counts (i + 24 * c)) }
-
   pub corners-many : 512 < n → bad Counts ≡ outlineCorners s e id closed c counts i
   unfolding outlineCorners
   corners-many h = rw (← total, lt-ltb 512 n h)
-
-  module _ (few : n ≤ 512) where
-    pub corners-past : e - i < 24 * n → bad Past ≡ outlineCorners s e id closed c counts i
-    unfolding outlineCorners rest
-    corners-past h = rw (← total, le-ltb 512 n few, past e i (24 * n) h)
-
-    pub corners-numbers : i ≤ e → 24 * n ≤ e - i → all32 s (6 * n) i ≡ false → bad Numbers ≡ outlineCorners s e id closed c counts i
-    unfolding outlineCorners rest
-    corners-numbers l h a = rw (← total, le-ltb 512 n few, room e i (24 * n) l h, a)
-
-    pub corners-good : i ≤ e → 24 * n ≤ e - i → all32 s (6 * n) i ≡ true → good drawn (i + 24 * n) ≡ outlineCorners s e id closed c counts i
-    unfolding outlineCorners rest
-    corners-good l h a = rw (← total, le-ltb 512 n few, room e i (24 * n) l h, a)
 
 pub outline-past : (s : List ℕ) (e id : ℕ) (closed : Bool) (i : ℕ) → e - i < 4 → bad Past ≡ outlineAt s e id closed i
 unfolding outlineAt
@@ -118,25 +81,9 @@ unfolding sweepAt
 sweep-past s e id shape i h = rw (past e i 2 h)
 
 module _ (s : List ℕ) (e id : ℕ) (shape : List Section → Shape) (i n : ℕ) (is : n ≡ u16At s i) (l : i ≤ e) (f : 2 ≤ e - i) where
-  abbrev swept : Object
-  swept = record { id = id; shape = shape (sectionsAt s n (i + 2)) }
-
   pub sweep-many : 4096 < n → bad Counts ≡ sweepAt s e id shape i
   unfolding sweepAt
   sweep-many m = rw (← is, room e i 2 l f, lt-ltb 4096 n m)
-
-  module _ (m : n ≤ 4096) where
-    pub sweep-sections : e - (i + 2) < 48 * n → bad Past ≡ sweepAt s e id shape i
-    unfolding sweepAt rest
-    sweep-sections p = rw (← is, room e i 2 l f, le-ltb 4096 n m, past e (i + 2) (48 * n) p)
-
-    pub sweep-numbers : 48 * n ≤ e - (i + 2) → all32 s (12 * n) (i + 2) ≡ false → bad Numbers ≡ sweepAt s e id shape i
-    unfolding sweepAt rest
-    sweep-numbers p a = rw (← is, room e i 2 l f, le-ltb 4096 n m, room e (i + 2) (48 * n) (omega arith) p, a)
-
-    pub sweep-good : 48 * n ≤ e - (i + 2) → all32 s (12 * n) (i + 2) ≡ true → good swept (i + 2 + 48 * n) ≡ sweepAt s e id shape i
-    unfolding sweepAt rest
-    sweep-good p a = rw (← is, room e i 2 l f, le-ltb 4096 n m, room e (i + 2) (48 * n) (omega arith) p, a)
 
 -- ---- by the kind
 
