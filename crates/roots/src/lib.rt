@@ -1,23 +1,24 @@
 // The correctly rounded square root of an f32, for every value: IEEE 754, to nearest, ties to even.
 ghost use mathlib.Core.Path.{_≡_};
-ghost use Prim.Native.Nat.{_^_, _<_};
+ghost use Prim.Native.Nat.{_+_, _*_, _/_, _%_, _^_, _<_};
 ghost use lib.Ieee.{binary32, ofBits};
-ghost use Rattle.float.specs.Rounding.{root, squareRoot, significand, exponent};
+ghost use Rattle.float.specs.Rounding.{root, squareRoot};
 
-// A number near the root of n: only its range is promised. A step of Heron's method on n / 2^48, from
-// a polynomial that is within 1 part in 15,000 of the root between 1 and 4.
-fn root_guess(n: u64) -> u64
-    requires { ⌜ n < 2 ^ 50 ⌝ }
+// A number near the root of top * 2^(17 + odd): only its range is promised. t is a quarter of that
+// number, made from its digits, and a a polynomial in t that is within 1 part in 15,000 of t's root;
+// a step of Heron's method then gives twice the root of t.
+fn root_guess(top: u32, odd: u32) -> u64
+    requires { ⌜ odd < 2 ⌝ }
     ensures { λ r. ⌜ r < 2 ^ 26 ⌝ }
 {
-    let t = ((n / 0x4_0000) as u32) as f64 * 0.000000000931322574615478515625;
+    let digits = (top % 0x8000_0000) as u64 * 0x20_0000;
+    let t = f64::from_bits((1069 + odd as u64) * 0x10_0000_0000_0000 + digits);
     let q = t * t;
-    let a = (0.34354 + 0.870612 * t)
-        + (0.0772602 * t - 0.280016) * q
-        + (0.000795738 * t - 0.0121293) * (q * q);
-    let c = (a + t / a) * 8388608.0;
-    // The sum's last digit is worth 1, so its digits' field is c rounded.
-    let y = c + 4503599627370495.5;
+    let a = (2881822.39232 + 1.03785038e-7 * t)
+        + (1.859971659e-36 * t - 4.743655555e-22) * q
+        + (3.868663852e-66 * t - 4.14960192e-51) * (q * q);
+    // The sum's last digit is worth 1, so its digits' field is the guess rounded.
+    let y = (a + t / a) + 4503599627370495.5;
     if y != y {
         return 0;
     }
@@ -25,11 +26,11 @@ fn root_guess(n: u64) -> u64
 }
 
 // The whole square root: the guess, put right by whole steps.
-fn whole_root(n: u64) -> u64
-    requires { ⌜ n < 2 ^ 50 ⌝ }
+fn whole_root(n: u64, guess: u64) -> u64
+    requires { ⌜ (n < 2 ^ 50) × (guess < 2 ^ 26) ⌝ }
     ensures { λ r. ⌜ r ≡ root n ⌝ }
 {
-    let mut r = root_guess(n);
+    let mut r = guess;
     while n < r * r {
         r = r - 1;
     }
@@ -39,39 +40,27 @@ fn whole_root(n: u64) -> u64
     r
 }
 
-// The bit pattern of the root of the finite number above zero whose pattern is b.
+// The bit pattern of the root of top * 2^(v - 281), where the highest of top's 32 digits is set.
+fn rounded_root(top: u32, v: u32) -> u32
+    requires { ⌜ v < 386 ⌝ }
+    ensures { λ r. ⌜ r ≡ (v / 2 + 1) * 0x80_0000 + (root (top * 2 ^ (17 + v % 2)) + 1) / 2 ⌝ }
+{
+    let odd = v % 2;
+    let r = whole_root((top as u64) << (17 + odd), root_guess(top, odd));
+    (v / 2 + 1) * 0x80_0000 + ((r + 1) / 2) as u32
+}
+
+// The bit pattern of the root of the finite number above zero whose pattern is b. A subnormal number
+// is shifted up by its leading zeros; any other has eight.
 fn root_bits(b: u32) -> u32
     requires { ⌜ (0 < b) × (b < 0x7f80_0000) ⌝ }
     ensures { λ r. ⌜ (ofBits binary32 r ≡ squareRoot binary32 (ofBits binary32 b)) × (r < 0x7f80_0000) ⌝ }
 {
-    let sig = significand32(b);
-    let z = u32::leading_zeros(sig);
-    let top = (sig << z) as u64;
-    let v = exponent32(b) + 132 - z;
-    let r = whole_root(top << (17 + v % 2));
-    (v / 2 + 1) * 0x80_0000 + ((r + 1) / 2) as u32
-}
-
-// The digits of a finite number's pattern, with the leading one that a normal number leaves out,
-// and how far they stand above the smallest value's.
-fn significand32(b: u32) -> u32
-    ensures { λ r. ⌜ r ≡ significand binary32 b ⌝ }
-{
-    if b % 0x8000_0000 < 0x80_0000 {
-        b % 0x80_0000
-    } else {
-        0x80_0000 + b % 0x80_0000
+    if b < 0x80_0000 {
+        let z = u32::leading_zeros(b);
+        return rounded_root(b << z, 132 - z);
     }
-}
-
-fn exponent32(b: u32) -> u32
-    ensures { λ r. ⌜ r ≡ exponent binary32 b ⌝ }
-{
-    if b % 0x8000_0000 < 0x80_0000 {
-        0
-    } else {
-        b % 0x8000_0000 / 0x80_0000 - 1
-    }
+    rounded_root((0x80_0000 + b % 0x80_0000) * 256, b / 0x80_0000 + 123)
 }
 
 // The square root of x, rounded once.
@@ -82,6 +71,9 @@ pub fn sqrt(x: f32) -> f32
         return x;
     }
     let b = f32::to_bits(x);
+    if (0x80_0000 <= b) & (b < 0x7f80_0000) {
+        return f32::from_bits(root_bits(b));
+    }
     if b % 0x8000_0000 == 0 {
         return x;
     }

@@ -1,98 +1,105 @@
--- `roots::root_bits` meets its contract, by `sqrt-bits` of proofs/Root.antt. Assumes nothing.
+-- `roots::root_bits` meets its contract, by `sqrt-bits` of the crate float's proofs/Root.antt. Assumes nothing.
 use borrow.Author.Needs.{needs}
 use mathlib.Core.Path.{_≡_, refl, sym, ap, _∙_, subst}
-use Prim.Native.Nat.{ℕ, _+_, _-_, _*_, _%_, _^_, _<_}
+use Prim.Native.Nat.{ℕ, suc, _+_, _-_, _*_, _/_, _%_, _^_, _≤_, _<_}
+use native.Mathlib.Nat.{le-trans, lt-of-lt-of-le, lt-of-not-le, lt-irrefl, mod-eq-of-lt}
 use native.Mathlib.Omega.{arith}
-use lib.Count.{leadingZeros}
-use lib.Ieee.{binary32}
-use Rattle.float.specs.Rounding.{root, exponent}
-use Rattle.float.proofs.Rounding.{Number}
-use Rattle.float.proofs.Root.{zeros-lt, radicand, radicand-lt, root-lt, sqrt-bits}
+use lib.Count.{leadingZeros, leading-top}
+use lib.Dec.{lit≤}
+use lib.Ieee.{binary32, ofBits}
+use lib.Pow.{pow-mono}
+use Rattle.float.specs.Rounding.{root, squareRoot, exponent}
+use Rattle.float.proofs.Rounding.{Number, normalised, significand-low, significand-high}
+use Rattle.float.proofs.Root.{zeros-lt, sqrt-bits}
 use Rattle.roots.proofs.root_bits.Statement.{statement}
 use Rattle.roots.proofs.root_bits.Tie as tie
 
--- the number, once its significand is read, and once its exponent is
-begun : (c : tie.After-significand32) → Number binary32 (c .before .args .b) (c .significand32 .result) (exponent binary32 (c .before .args .b))
-begun c = record { not-zero = omega arith; finite = omega arith; digits = c .significand32 .ensures; place = refl }
+-- the pattern that `rounded_root` gives, and what is claimed of it
+abbrev pattern : ℕ → ℕ → ℕ
+pattern top v = (v / 2 + 1) * 0x80_0000 + (root (top * 2 ^ (17 + v % 2)) + 1) / 2
 
-number : (c : tie.After-exponent32) → Number binary32 (c .before .before .args .b) (c .before .significand32 .result) (c .exponent32 .result)
-number c = record { not-zero = omega arith; finite = omega arith; digits = c .before .significand32 .ensures; place = c .exponent32 .ensures }
+abbrev Rooted : ℕ → ℕ → Type 0
+Rooted b p = (ofBits binary32 p ≡ squareRoot binary32 (ofBits binary32 b)) × (p < 0x7f80_0000)
 
-zeros : (c : tie.After-significand32) → leadingZeros 32 (c .significand32 .result) < 32
-zeros c = zeros-lt _ _ _ (begun c)
+-- ---- below the normal numbers
 
-significand32-requires : tie.Need-significand32-requires
-significand32-requires c κs = search needs
+subnormal : (b : ℕ) → 0 < b → b < 0x80_0000 → Number binary32 b b 0
+subnormal b p h = record {
+  not-zero = omega arith;
+  finite = omega arith;
+  digits = sym (mod-eq-of-lt h) ∙ significand-low binary32 b (omega arith);
+  place = omega arith;
+}
 
-shl-top : tie.Need-shl-top
-shl-top c = zeros c
+-- ---- the normal numbers: eight zeros lead their 24 digits
 
-cast-top : tie.Need-cast-top
-cast-top c = search needs
+eight : (g : ℕ) → 2 ^ 23 ≤ g → g < 2 ^ 24 → leadingZeros 32 g ≡ 8
+eight g l h = go (leadingZeros 32 g) (t .0) (t .1) low-end high-end
+  where
+    t : (j : ℕ) × (leadingZeros 32 g + suc j ≡ 32) × (2 ^ j ≤ g) × (g < 2 ^ suc j)
+    t = leading-top 32 g (omega arith) (lt-of-lt-of-le h (lit≤ tt))
 
-exponent32-requires : tie.Need-exponent32-requires
-exponent32-requires c κs = search needs
+    low-end : t .0 < 24
+    low-end = lt-of-not-le (λ (k : 24 ≤ t .0). lt-irrefl g (lt-of-lt-of-le h (le-trans (pow-mono k) (t .2))))
 
-add-v : tie.Need-add-v
-add-v c = search needs
+    high-end : 23 < suc (t .0)
+    high-end = lt-of-not-le (λ (k : suc (t .0) ≤ 23). lt-irrefl g (lt-of-lt-of-le (t .3) (le-trans (pow-mono k) l)))
 
-sub-v : tie.Need-sub-v
-sub-v c = omega (arith, zeros (c .before))
+    go : (z j : ℕ) → z + suc j ≡ 32 → j < 24 → 23 < suc j → z ≡ 8
+    go z j e a b = omega arith
 
-add-whole-root : tie.Need-add-whole-root
-add-whole-root c = search needs
+normal : (b : ℕ) → 0x80_0000 ≤ b → b < 0x7f80_0000 → Rooted b (pattern ((0x80_0000 + b % 0x80_0000) * 256) (b / 0x80_0000 + 123))
+normal b l h =
+    subst (λ (v : ℕ). Rooted b (pattern (g * 256) v)) (place b l h)
+    (subst (λ (z : ℕ). Rooted b (pattern (g * 2 ^ z) (x + 132 - z))) (eight g (omega arith) (omega arith)) (sqrt-bits b g x number (omega arith) _ refl))
+  where
+    g : ℕ
+    g = 0x80_0000 + b % 0x80_0000
 
-cast-whole-root : tie.Need-cast-whole-root
-cast-whole-root c = search needs
+    x : ℕ
+    x = exponent binary32 b
 
-shl-whole-root : tie.Need-shl-whole-root
-shl-whole-root c = search needs
+    number : Number binary32 b g x
+    number = record { not-zero = omega arith; finite = omega arith; digits = significand-high binary32 b (omega arith); place = refl }
 
-whole-root-requires : tie.Need-whole-root-requires
-whole-root-requires c κs = subst (λ (n : ℕ). n < 2 ^ 50) (sym (radicand _ _ _ (number c) _)) (radicand-lt _ _ _ (number c) _)
+    place : (b : ℕ) → 0x80_0000 ≤ b → b < 0x7f80_0000 → exponent binary32 b + 132 - 8 ≡ b / 0x80_0000 + 123
+    place b l h = omega arith
 
--- what `whole_root` gives is the root of the shifted significand
-root-of : (c : tie.After-whole-root) → c .whole-root .result ≡ root (c .before .before .significand32 .result * 2 ^ leadingZeros 32 (c .before .before .significand32 .result) * 2 ^ (17 + (c .before .exponent32 .result + 132 - leadingZeros 32 (c .before .before .significand32 .result)) % 2))
-root-of c = c .whole-root .ensures ∙ ap root (radicand _ _ _ (number (c .before)) _)
+-- ----
 
-small : (c : tie.After-whole-root) → c .whole-root .result < 2 ^ 25
-small c = subst (λ (n : ℕ). n < 2 ^ 25) (sym (root-of c)) (root-lt _ _ _ (number (c .before)) _)
+zeros : (c : tie.Then1) → leadingZeros 32 (c .before .args .b) < 32
+zeros c = zeros-lt _ _ _ (subnormal (c .before .args .b) (c .before .pre .0) (c .if1 .taken))
+
+shl-rounded-root : tie.Need-shl-rounded-root
+shl-rounded-root c = zeros c
+
+sub-rounded-root : tie.Need-sub-rounded-root
+sub-rounded-root c = omega (arith, zeros c)
 
 returns : tie.Need-returns
-returns c = sqrt-bits _ _ _ (number (c .before)) (omega arith) (c .whole-root .result) (root-of c)
+returns c =
+    let b = c .before .before .args .b in
+    let n = subnormal b (c .before .before .pre .0) (c .before .if1 .taken) in
+    let v = 132 - leadingZeros 32 b in
+    subst (Rooted b)
+    (sym (c .rounded-root .ensures ∙ ap (λ (t : ℕ). pattern t v) (mod-eq-of-lt (normalised 32 (lit≤ tt) n .2))))
+    (sqrt-bits b b 0 n (omega arith) _ refl)
 
-add-result : tie.Need-add-result
-add-result c = search needs
-
-mul-result : tie.Need-mul-result
-mul-result c = search needs
-
-add-result-2 : tie.Need-add-result-2
-add-result-2 c = omega (arith, small c)
-
-cast-result : tie.Need-cast-result
-cast-result c = omega (arith, small c)
-
-add-result-3 : tie.Need-add-result-3
-add-result-3 c = omega (arith, returns c .1)
+returns-2 : tie.Need-returns-2
+returns-2 c =
+    let b = c .before .before .args .b in
+    subst (Rooted b) (sym (c .rounded-root2 .ensures)) (normal b (c .before .if1 .left) (c .before .before .pre .1))
 
 pub root-bits-spec : {M : Type 1} → statement M
 root-bits-spec =
     tie.close
     (tie.spec
-    significand32-requires
-    shl-top
-    cast-top
-    exponent32-requires
-    add-v
-    sub-v
-    add-whole-root
-    cast-whole-root
-    shl-whole-root
-    whole-root-requires
-    add-result
-    mul-result
-    add-result-2
-    cast-result
-    add-result-3
-    returns)
+    shl-rounded-root
+    sub-rounded-root
+    (λ c κs. search needs)
+    returns
+    (λ c. search needs)
+    (λ c. search needs)
+    (λ c. search needs)
+    (λ c κs. search needs)
+    returns-2)

@@ -5,11 +5,11 @@ use mathlib.Core.Logic.{_⊎_, inl, inr}
 use Prim.Native.Nat.{ℕ, zero, suc, _*_, _/_, _%_, _^_, _≤_, _<_}
 use native.Mathlib.Nat.{le-trans, le-of-lt, lt-irrefl, mod-le, mul-pos, zero-mul, eq-or-lt-of-le}
 use native.Mathlib.Omega.{arith}
-use mathlib.Core.Bool.{Bool, true, false, cond, false≢true}
-use lib.Dec.{T, leb}
+use mathlib.Core.Bool.{Bool, true, false, cond, _&&_, false≢true}
+use lib.Dec.{T, leb, ltb, leb→le, ltb→lt}
 use lib.Pow.{pow-pos}
 use lib.Ieee.{Float, nan, inf, fin, Format, binary32, up, fits, ofBits, ofFields, toBits, div}
-use lib.Ieee.Fits.{down-pos}
+use lib.Ieee.Fits.{down-pos, and-l, and-r}
 use lib.Ieee.Bits.{ofBits-toBits}
 use lib.Ieee.Compare.{differs-from-itself}
 use lib.Ieee.Exact.{HasValue}
@@ -67,6 +67,14 @@ below-zero b h z (inr l) =
     (subst (λ (s : Bool). HasValue (ofBits binary32 b) s (significand binary32 b * 2 ^ exponent binary32 b) (2 ^ 149)) (le-leb (2 ^ 31) b h) (read binary32 b (field-lt binary32 b l)))
     (mul-pos (significand-pos binary32 b (omega arith)) (pow-pos (exponent binary32 b)))
 
+-- a normal number above zero
+range : (b : ℕ) → leb 0x80_0000 b && ltb b 0x7f80_0000 ≡ true → (0 < b) × (b < 0x7f80_0000)
+range b e =
+    let l = leb 0x80_0000 b in
+    let h = ltb b 0x7f80_0000 in
+    let t : T (l && h) = subst T (sym e) tt in
+    (omega (arith, leb→le 0x80_0000 b (and-l l h t)), ltb→lt b 0x7f80_0000 (and-r l h t))
+
 returns : tie.Need-returns
 returns c =
     let e : c .before .args .x ≡ nan = differs-from-itself (c .before .args .x) (subst T (sym (c .if1 .taken)) tt) in
@@ -78,37 +86,50 @@ float-to-bits-b c = not-nan (c .before .args .x) (c .if1 .left)
 in-range : (c : tie.Else1) → toBits binary32 (c .before .args .x) % 2 ^ 31 ≤ 0x7f80_0000
 in-range c = pattern-le binary32 (c .before .args .x) (held (c .before)) (not-nan (c .before .args .x) (c .if1 .left))
 
+root-bits-requires : tie.Need-root-bits-requires
+root-bits-requires c κs = range (toBits binary32 (c .before .before .args .x)) (c .if2 .taken)
+
+-- what `root_bits` gives is a number's pattern
+pattern : (p : ℕ) → p < 0x7f80_0000 → p % 2 ^ 31 ≤ 0x7f80_0000
+pattern p h = le-trans (mod-le p (2 ^ 31)) (le-of-lt h)
+
+float-from-bits-result : tie.Need-float-from-bits-result
+float-from-bits-result c = no-nan-bits binary32 (c .root-bits .result) (pattern (c .root-bits .result) (c .root-bits .ensures .1))
+
 returns-2 : tie.Need-returns-2
-returns-2 c =
-    let x = c .before .before .args .x in
-    let b = toBits binary32 x in
-    let e : ofFields binary32 (leb (2 ^ 31) b) 0 0 ≡ x = sym (by-fields b 0 0 (omega arith) (omega arith)) ∙ back (c .before .before) in
-    sym e ∙ of-zero (leb (2 ^ 31) b) ∙ ap (squareRoot binary32) e
+returns-2 c = c .root-bits .ensures .0 ∙ ap (squareRoot binary32) (back (c .before .before .before))
 
 returns-3 : tie.Need-returns-3
 returns-3 c =
     let x = c .before .before .before .args .x in
     let b = toBits binary32 x in
-    no-number
-    ∙ sym (below-zero b (c .if3 .taken) (c .before .if2 .left) (eq-or-lt-of-le (in-range (c .before .before))))
-    ∙ ap (squareRoot binary32) (back (c .before .before .before))
+    let e : ofFields binary32 (leb (2 ^ 31) b) 0 0 ≡ x = sym (by-fields b 0 0 (omega arith) (omega arith)) ∙ back (c .before .before .before) in
+    sym e ∙ of-zero (leb (2 ^ 31) b) ∙ ap (squareRoot binary32) e
 
 returns-4 : tie.Need-returns-4
 returns-4 c =
     let x = c .before .before .before .before .args .x in
     let b = toBits binary32 x in
-    let s : leb (2 ^ 31) b ≡ false = ap (leb (2 ^ 31)) (c .if4 .taken) in
-    let e : ofFields binary32 false 255 0 ≡ x = ap (λ (t : Bool). ofFields binary32 t 255 0) (sym s) ∙ sym (by-fields b 255 0 (omega arith) (omega arith)) ∙ back (c .before .before .before .before) in
-    sym e ∙ plus-infinity ∙ ap (squareRoot binary32) e
-
-root-bits-requires : tie.Need-root-bits-requires
-root-bits-requires c κs = (omega arith, omega (arith, in-range (c .before .before .before)))
-
-float-from-bits-result : tie.Need-float-from-bits-result
-float-from-bits-result c = no-nan-bits binary32 (c .root-bits .result) (le-trans (mod-le (c .root-bits .result) (2 ^ 31)) (le-of-lt (c .root-bits .ensures .1)))
+    no-number
+    ∙ sym (below-zero b (c .if4 .taken) (c .before .if3 .left) (eq-or-lt-of-le (in-range (c .before .before .before))))
+    ∙ ap (squareRoot binary32) (back (c .before .before .before .before))
 
 returns-5 : tie.Need-returns-5
-returns-5 c = c .root-bits .ensures .0 ∙ ap (squareRoot binary32) (back (c .before .before .before .before .before))
+returns-5 c =
+    let x = c .before .before .before .before .before .args .x in
+    let b = toBits binary32 x in
+    let s : leb (2 ^ 31) b ≡ false = ap (leb (2 ^ 31)) (c .if5 .taken) in
+    let e : ofFields binary32 false 255 0 ≡ x = ap (λ (t : Bool). ofFields binary32 t 255 0) (sym s) ∙ sym (by-fields b 255 0 (omega arith) (omega arith)) ∙ back (c .before .before .before .before .before) in
+    sym e ∙ plus-infinity ∙ ap (squareRoot binary32) e
+
+root-bits-requires-2 : tie.Need-root-bits-requires-2
+root-bits-requires-2 c κs = (omega arith, omega (arith, in-range (c .before .before .before .before)))
+
+float-from-bits-result-2 : tie.Need-float-from-bits-result-2
+float-from-bits-result-2 c = no-nan-bits binary32 (c .root-bits2 .result) (pattern (c .root-bits2 .result) (c .root-bits2 .ensures .1))
+
+returns-6 : tie.Need-returns-6
+returns-6 c = c .root-bits2 .ensures .0 ∙ ap (squareRoot binary32) (back (c .before .before .before .before .before .before))
 
 pub sqrt-spec : {M : Type 1} → statement M
 sqrt-spec =
@@ -116,9 +137,12 @@ sqrt-spec =
     (tie.spec
     returns
     float-to-bits-b
+    root-bits-requires
+    float-from-bits-result
     returns-2
     returns-3
     returns-4
-    root-bits-requires
-    float-from-bits-result
-    returns-5)
+    returns-5
+    root-bits-requires-2
+    float-from-bits-result-2
+    returns-6)

@@ -1,4 +1,4 @@
--- `roots::whole_root` meets its contract: whatever the guess, the first loop brings r down until its square is at most n, and the second up until the next square is above n. Assumes nothing.
+-- `roots::whole_root` meets its contract: whatever the guess is, the first loop brings r down until its square is at most n, and the second up until the next square is above n. Assumes nothing.
 use Prim.Native.Nat.{ℕ, _+_, _-_, _*_, _^_, _≤_, _<_}
 use mathlib.Core.Logic.{inl, inr}
 use mathlib.Core.Path.{_≡_, ap, subst}
@@ -36,19 +36,16 @@ nearer n r h = go n (r + 1) r (le-trans (own-square (r + 1) (one r)) h) (ap (λ 
     go n s r h e = omega arith
 
 abbrev Inv-loop : tie.InvT-loop
-Inv-loop n r₀ r = r < 2 ^ 26
+Inv-loop n guess r₀ r = r < 2 ^ 26
 
 abbrev μ-loop : tie.MeasureT-loop
-μ-loop n r₀ r = r
+μ-loop n guess r₀ r = r
 
 abbrev Inv-loop2 : tie.InvT-loop2
-Inv-loop2 n r₀ r = (r < 2 ^ 26) × (r * r ≤ n)
+Inv-loop2 n guess r₀ r = (r < 2 ^ 26) × (r * r ≤ n)
 
 abbrev μ-loop2 : tie.MeasureT-loop2
-μ-loop2 n r₀ r = n - r
-
-root-guess-requires : tie.Need-root-guess-requires Inv-loop μ-loop Inv-loop2 μ-loop2
-root-guess-requires c κs = search needs
+μ-loop2 n guess r₀ r = n - r
 
 loop-holds : tie.Need-loop-holds Inv-loop μ-loop Inv-loop2 μ-loop2
 loop-holds c = search needs
@@ -57,10 +54,10 @@ mul-loop : tie.Need-mul-loop Inv-loop μ-loop Inv-loop2 μ-loop2
 mul-loop c = record { fits = small-square (c .loop .r) (le-of-lt (c .loop .inv)) }
 
 sub-r : tie.Need-sub-r Inv-loop μ-loop Inv-loop2 μ-loop2
-sub-r c = not-zero (c .before .before .before .args .n) (c .before .loop .r) (c .loop-test .taken)
+sub-r c = not-zero (c .before .before .args .n) (c .before .loop .r) (c .loop-test .taken)
 
 loop-less : tie.Need-loop-less Inv-loop μ-loop Inv-loop2 μ-loop2
-loop-less c = omega (arith, not-zero (c .before .before .before .args .n) (c .before .loop .r) (c .loop-test .taken))
+loop-less c = omega (arith, not-zero (c .before .before .args .n) (c .before .loop .r) (c .loop-test .taken))
 
 loop-again : tie.Need-loop-again Inv-loop μ-loop Inv-loop2 μ-loop2
 loop-again c = search needs
@@ -81,14 +78,14 @@ add-r : tie.Need-add-r Inv-loop μ-loop Inv-loop2 μ-loop2
 add-r c = search needs
 
 loop2-less : tie.Need-loop2-less Inv-loop μ-loop Inv-loop2 μ-loop2
-loop2-less c = nearer (c .before .before .before .before .before .args .n) (c .before .loop2 .r) (c .loop2-test .taken)
+loop2-less c = nearer (c .before .before .before .before .args .n) (c .before .loop2 .r) (c .loop2-test .taken)
 
 loop2-again : tie.Need-loop2-again Inv-loop μ-loop Inv-loop2 μ-loop2
-loop2-again c = (still-small (c .before .before .before .before .before .args .n) (c .before .loop2 .r + 1) (c .before .before .before .before .before .pre) (c .loop2-test .taken), c .loop2-test .taken)
+loop2-again c = (still-small (c .before .before .before .before .args .n) (c .before .loop2 .r + 1) (c .before .before .before .before .pre .0) (c .loop2-test .taken), c .loop2-test .taken)
 
 returns : tie.Need-returns Inv-loop μ-loop Inv-loop2 μ-loop2
 returns c =
-    let n = c .before .before .before .before .before .args .n in
+    let n = c .before .before .before .before .args .n in
     root-unique n (c .before .loop2 .r) (c .before .loop2 .inv .1) (subst (λ (x : ℕ). n < x * x) (add-one (c .before .loop2 .r)) (c .loop2-test .left))
 
 pub whole-root-spec : {M : Type 1} → statement M
@@ -99,7 +96,6 @@ whole-root-spec =
     μ-loop
     Inv-loop2
     μ-loop2
-    root-guess-requires
     loop-holds
     mul-loop
     sub-r
