@@ -57,7 +57,7 @@ pub fn first_axis(lid: Vector) -> Vector
     ensures { λ r. ⌜ r ≡ firstAxis lid ⌝ }
 {
     let e = axis_across(lid);
-    e.sub(lid.scale(e.dot(lid))).normalize_or_zero()
+    e.sub(lid.scale(e.dot(lid))).normalize_or(Vector::ZERO)
 }
 
 // The axis of the world that lies far from the lid's normal.

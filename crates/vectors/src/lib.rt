@@ -1,7 +1,7 @@
 // Vectors: three f32, by value, with the operations of coords.rs in its order.
 ghost use mathlib.Core.Path.{_≡_};
 ghost use lib.Ieee.{lt};
-ghost use Rattle.vectors.specs.Vectors.{zeroV, plus, less, scale, negate, dot, cross, norm, normalizeOr};
+ghost use Rattle.vectors.specs.Vectors.{plus, less, scale, negate, dot, cross, norm, normalizeOr};
 
 // A displacement between points, or a direction.
 pub struct Vector {
@@ -85,7 +85,7 @@ impl Vector {
         }
     }
 
-    pub fn length(self) -> f32
+    fn length(self) -> f32
         ensures { λ r. ⌜ r ≡ norm self ⌝ }
     {
         roots::sqrt(self.dot(self))
@@ -108,11 +108,5 @@ impl Vector {
         } else {
             fallback
         }
-    }
-
-    pub fn normalize_or_zero(self) -> Vector
-        ensures { λ r. ⌜ r ≡ normalizeOr self zeroV ⌝ }
-    {
-        self.normalize_or(Vector::ZERO)
     }
 }

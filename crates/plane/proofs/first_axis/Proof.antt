@@ -6,7 +6,7 @@ use Rattle.plane.proofs.first_axis.Tie as tie
 
 returns : tie.Need-returns
 unfolding firstAxis
-returns c = rw (c .normalize-or-zero .ensures, c .before .sub .ensures, c .before .before .scale .ensures, c .before .before .before .dot .ensures, c .before .before .before .before .axis-across .ensures)
+returns c = rw (c .normalize-or .ensures, c .before .sub .ensures, c .before .before .scale .ensures, c .before .before .before .dot .ensures, c .before .before .before .before .axis-across .ensures)
 
 pub first-axis-spec : {M : Type 1} → statement M
 first-axis-spec =
