@@ -1,5 +1,4 @@
-// Numbers at a place of the scene's bytes, little-endian. Past the end every byte counts as 0, as
-// it does for `getD`, so that the readers ask nothing of their callers.
+// Numbers at a place of the scene's bytes, little-endian.
 ghost use mathlib.Core.Path.{_≡_};
 ghost use Prim.Native.Nat.{_+_, _≤_};
 ghost use lib.ListN.{length};
@@ -46,7 +45,18 @@ pub fn f32_in(s: &[u8], i: usize) -> f32
     f32_of(u32_in(s, i))
 }
 
-// ---- anywhere
+pub fn f64_in(s: &[u8], i: usize) -> f64
+    requires { ⌜ i + 8 ≤ length (now s) ⌝ }
+    ensures { λ r. ⌜ r ≡ f64At (now (s .entry)) i ⌝ }
+{
+    let b = u64_in(s, i);
+    if 0x7ff0_0000_0000_0000 < b % 0x8000_0000_0000_0000 {
+        return 0.0 / 0.0;
+    }
+    f64::from_bits(b)
+}
+
+// ---- anywhere: past the end every byte counts as 0, as it does for `getD`
 
 pub fn u16_at(s: &[u8], i: usize) -> u16
     ensures { λ r. ⌜ r ≡ u16At (now (s .entry)) i ⌝ }
@@ -72,30 +82,8 @@ pub fn u32_at(s: &[u8], i: usize) -> u32
     (u16_at(s, i) as u32) + 65536 * (u16_at(s, i + 2) as u32)
 }
 
-fn u64_at(s: &[u8], i: usize) -> u64
-    ensures { λ r. ⌜ r ≡ u64At (now (s .entry)) i ⌝ }
-{
-    if s.len() <= i {
-        return 0;
-    }
-    if 8 <= s.len() - i {
-        return u64_in(s, i);
-    }
-    (u32_at(s, i) as u64) + 0x1_0000_0000 * (u32_at(s, i + 4) as u64)
-}
-
 pub fn f32_at(s: &[u8], i: usize) -> f32
     ensures { λ r. ⌜ r ≡ f32At (now (s .entry)) i ⌝ }
 {
     f32_of(u32_at(s, i))
-}
-
-pub fn f64_at(s: &[u8], i: usize) -> f64
-    ensures { λ r. ⌜ r ≡ f64At (now (s .entry)) i ⌝ }
-{
-    let b = u64_at(s, i);
-    if 0x7ff0_0000_0000_0000 < b % 0x8000_0000_0000_0000 {
-        return 0.0 / 0.0;
-    }
-    f64::from_bits(b)
 }

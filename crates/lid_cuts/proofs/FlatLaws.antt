@@ -63,13 +63,12 @@ flatten-points s (suc n) at lid =
     ap (λ (p : ℕ). list (λ k. flatOn (pointAt s p) (firstAxis lid) (cross lid (firstAxis lid)) (pointAt s (at + 24 * k))) (suc n) 0) (sym (add-zero at))
     ∙ sym (map-list (flatOn (pointAt s (at + 24 * 0)) (firstAxis lid) (cross lid (firstAxis lid))) (λ k. pointAt s (at + 24 * k)) (suc n) 0)
 
-pub laid-flat : (s : List ℕ) (n at : ℕ) (lid : Vector) (o : Point) (e1 e2 : Vector) (us vs : List Float) → o ≡ pointAt s at → e1 ≡ firstAxis lid → e2 ≡ cross lid e1
-    → us ≡ list (λ j. flatOn o e1 e2 (pointAt s (at + 24 * j)) .u) n 0 → take n vs ≡ list (λ j. flatOn o e1 e2 (pointAt s (at + 24 * j)) .v) n 0
+pub laid-flat : (s : List ℕ) (n at : ℕ) (lid : Vector) (e1 e2 : Vector) (us vs : List Float) → e1 ≡ firstAxis lid → e2 ≡ cross lid e1
+    → us ≡ list (λ j. flatOn (pointAt s at) e1 e2 (pointAt s (at + 24 * j)) .u) n 0 → take n vs ≡ list (λ j. flatOn (pointAt s at) e1 e2 (pointAt s (at + 24 * j)) .v) n 0
     → flats us vs ≡ flatten lid (pointsAt s n at)
-laid-flat s n at lid o e1 e2 us vs p q r a b =
+laid-flat s n at lid e1 e2 us vs q r a b =
     ap (λ (l : List Float). flats l vs) a
-    ∙ flats-list (λ j. flatOn o e1 e2 (pointAt s (at + 24 * j))) n vs b
-    ∙ ap (λ (x : Point). list (λ j. flatOn x e1 e2 (pointAt s (at + 24 * j))) n 0) p
+    ∙ flats-list (λ j. flatOn (pointAt s at) e1 e2 (pointAt s (at + 24 * j))) n vs b
     ∙ ap (λ (x : Vector). list (λ j. flatOn (pointAt s at) e1 x (pointAt s (at + 24 * j))) n 0) r
     ∙ ap (λ (x : Vector). list (λ j. flatOn (pointAt s at) x (cross lid x) (pointAt s (at + 24 * j))) n 0) q
     ∙ flatten-points s n at lid

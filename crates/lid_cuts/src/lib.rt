@@ -6,8 +6,8 @@ ghost use Rattle.fields.specs.Fields.{countsAt};
 ghost use Rattle.lid.specs.Plane.{flatten};
 ghost use Rattle.lid.specs.Rings.{flats};
 ghost use Rattle.lid.specs.Written.{WritesLid};
-ghost use Rattle.lid_plane.specs.Outlines.{pointsAt, PointsNear, lidAt, Measured};
-use fields::u16_at;
+ghost use Rattle.lid_plane.specs.Outlines.{pointsAt, PointsIn, lidAt, Measured};
+use fields::u16_in;
 use geometry::point_at;
 use lid_plane::OutlineAt;
 use plane::first_axis;
@@ -18,15 +18,14 @@ use vectors::Vector;
 // Lays the n points at `at` flat on the lid's plane: their first coordinates go to the front of `room`,
 // the second ones behind them.
 fn lay_flat(s: &[u8], at: usize, n: usize, lid: Vector, room: &mut [f32])
-    requires { ⌜ PointsNear at n × (2 * n ≤ length (now room)) ⌝ }
+    requires { ⌜ PointsIn (now s) at n × (2 * n ≤ length (now room)) ⌝ }
     ensures { λ _. ⌜ flats (take n (now (room .exit))) (drop n (now (room .exit))) ≡ flatten lid (pointsAt (now (s .entry)) n at) ⌝ }
 {
-    let o = point_at(s, at);
     let e1 = first_axis(lid);
     let e2 = lid.cross(e1);
     let mut k = 0;
     while k < n {
-        let f = flat_corner(o, e1, e2, point_at(s, at + 24 * k));
+        let f = flat_corner(point_at(s, at), e1, e2, point_at(s, at + 24 * k));
         room[k] = f.u;
         room[n + k] = f.v;
         k += 1;
@@ -35,12 +34,12 @@ fn lay_flat(s: &[u8], at: usize, n: usize, lid: Vector, room: &mut [f32])
 
 // Reads n counts at `at` to the front of `counts`.
 fn read_counts(s: &[u8], at: usize, n: usize, counts: &mut [u32])
-    requires { ⌜ PointsNear at n × (n ≤ length (now counts)) ⌝ }
+    requires { ⌜ (at + 2 * n ≤ length (now s)) × (n ≤ length (now counts)) ⌝ }
     ensures { λ _. ⌜ take n (now (counts .exit)) ≡ countsAt (now (s .entry)) n at ⌝ }
 {
     let mut k = 0;
     while k < n {
-        counts[k] = u16_at(s, at + 2 * k) as u32;
+        counts[k] = u16_in(s, at + 2 * k) as u32;
         k += 1;
     }
 }

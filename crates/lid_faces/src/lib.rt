@@ -13,7 +13,7 @@ ghost use Rattle.offering.specs.Triangles.{trianglesIn};
 ghost use Rattle.face.specs.Drawing.{drawing, Drew, Room};
 ghost use Rattle.lid.specs.Written.{logWith};
 ghost use Rattle.shapes.specs.Shapes.{hasHeight, lidFaces};
-ghost use Rattle.lid_plane.specs.Outlines.{pointsAt, Near, PointsNear, lidAt, Measured};
+ghost use Rattle.lid_plane.specs.Outlines.{pointsAt, CornersIn, PointsIn, lidAt, Measured};
 use face::Tally;
 use geometry::point_at;
 use lid_cuts::cut;
@@ -23,7 +23,7 @@ use vectors::Vector;
 
 // The numbers of n points at `at`.
 fn put_points(s: &[u8], at: usize, n: u32, points: &mut [f32])
-    requires { ⌜ PointsNear at n ⌝ }
+    requires { ⌜ PointsIn (now s) at n ⌝ }
     ensures { λ _. ⌜ now (points .exit) ≡ sets (now (points .entry)) 0 (vertexNumbers (pointsAt (now (s .entry)) n at)) ⌝ }
 {
     let mut k: u32 = 0;
@@ -47,7 +47,7 @@ fn lid_faces(
     ns: &mut [f32],
     is: &mut [u32],
 ) -> Tally
-    requires { ⌜ Near (o .at) (o .n) × (3 * o .n ≤ length (now points)) × (o .high ≡ hasHeight (cornersAt (now s) (o .n) (o .at))) ⌝ }
+    requires { ⌜ CornersIn (now s) (o .at) (o .n) × (3 * o .n ≤ length (now points)) × (o .high ≡ hasHeight (cornersAt (now s) (o .n) (o .at))) ⌝ }
     requires { ⌜ Room before t (2 * o .n) (2 * (length (now triangles) / 3)) × Each (TriangleLow (o .n)) (trianglesIn (now triangles)) ⌝ }
     ensures { λ r. ⌜ Drew limit (lidFaces (cornersAt (now (s .entry)) (o .n) (o .at)) (o .lid) (trianglesIn (now (triangles .entry)))) before (drawing t (now (vs .entry)) (now (ns .entry)) (now (is .entry))) (drawing r (now (vs .exit)) (now (ns .exit)) (now (is .exit))) ⌝ }
 {

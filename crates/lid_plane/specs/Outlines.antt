@@ -1,8 +1,9 @@
 -- An outline where it lies in the scene's bytes: its points, 24 bytes apart, the bases from the corners' place on and the tops 12 bytes behind them. Definitions only.
 use mathlib.Core.Path.{_≡_}
 use mathlib.Core.Bool.{Bool}
-use Prim.Native.Nat.{ℕ, _+_, _*_, _<_, _≤_, _^_}
+use Prim.Native.Nat.{ℕ, _+_, _*_, _≤_}
 use mathlib.Core.List.{List}
+use lib.ListN.{length}
 use Rattle.lists.specs.Loops.{list, sumOf}
 use Rattle.coords.specs.declared.Point.{Point}
 use Rattle.vectors.specs.declared.Vector.{Vector}
@@ -21,12 +22,13 @@ use Rattle.lid_plane.specs.declared.OutlineAt.{OutlineAt}
 unfoldable pub pointsAt : List ℕ → ℕ → ℕ → List Point
 pointsAt s n at = list (λ k. pointAt s (at + 24 * k)) n 0
 
--- the places of n corners, or of n points, from `at` on are small numbers
-abbrev pub Near : ℕ → ℕ → Type 0
-Near at n = at + 24 * n < 2 ^ 32
+-- n corners from `at` on lie in the bytes
+abbrev pub CornersIn : List ℕ → ℕ → ℕ → Type 0
+CornersIn s at n = at + 24 * n ≤ length s
 
-abbrev pub PointsNear : ℕ → ℕ → Type 0
-PointsNear at n = at + 24 * n < 2 ^ 33
+-- n points, 24 bytes apart and 12 bytes each, from `at` on lie in the bytes
+abbrev pub PointsIn : List ℕ → ℕ → ℕ → Type 0
+PointsIn s at n = at + 24 * n ≤ length s + 12
 
 -- a face by its parts
 abbrev pub faceAt : ℕ → List Point → List Triangle → Vector → Face
@@ -52,11 +54,11 @@ outlineShape s i closed outer holes = outline closed (cornersAt s outer (corners
 abbrev pub lidAt : List ℕ → ℕ → ℕ → ℕ → Lid
 lidAt s i outer holes = outlineLid (cornersAt s outer (cornersOf i holes)) (holesAt s (countsAt s holes (i + 4)) (cornersOf i holes + 24 * outer))
 
--- it is within the limits of document 01, section 1, and its places are small numbers
+-- it is within the limits of document 01, section 1, and lies in the bytes
 pub record Placed (s : List ℕ) (i outer holes : ℕ) : Type 0 where
   pub few : holes ≤ 32
   pub corners : outer + holeCorners s i holes ≤ 512
-  pub near : Near (cornersOf i holes) (outer + holeCorners s i holes)
+  pub inside : CornersIn s (cornersOf i holes) (outer + holeCorners s i holes)
 
 -- what the code has worked out of it
 pub record Measured (s : List ℕ) (o : OutlineAt) : Type 0 where

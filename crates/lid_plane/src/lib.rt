@@ -2,13 +2,14 @@
 // and whether there is a height under it. Corners are read where they lie in the scene's bytes, each once.
 ghost use mathlib.Core.Path.{_≡_};
 ghost use mathlib.Core.Bool.{not};
-ghost use Prim.Native.Nat.{_+_, _*_, _<_};
+ghost use Prim.Native.Nat.{_+_, _*_, _<_, _≤_, _^_};
+ghost use lib.ListN.{length};
 ghost use Rattle.lists.specs.Loops.{next};
 ghost use Rattle.coords.specs.Coords.{samePoint};
 ghost use Rattle.fields.specs.Fields.{cornerAt, cornersAt};
 ghost use Rattle.lid.specs.Plane.{areaNormal, lidNormal, about};
 ghost use Rattle.shapes.specs.Shapes.{hasHeight};
-ghost use Rattle.lid_plane.specs.Outlines.{pointsAt, Near, PointsNear};
+ghost use Rattle.lid_plane.specs.Outlines.{pointsAt, CornersIn, PointsIn};
 use geometry::corner_at;
 use geometry::point_at;
 use plane::area_normal_step;
@@ -29,8 +30,8 @@ pub struct OutlineAt {
 
 // Where corner k + 1 of the n at `at` lies; behind the last one comes the first.
 pub fn next_place(at: usize, n: usize, k: usize) -> usize
-    requires { ⌜ PointsNear at n × (k < n) ⌝ }
-    ensures { λ r. ⌜ r ≡ at + 24 * next n k ⌝ }
+    requires { ⌜ (at + 24 * n < 2 ^ 64) × (k < n) ⌝ }
+    ensures { λ r. ⌜ (r ≡ at + 24 * next n k) × (r + 24 ≤ at + 24 * n) ⌝ }
 {
     if k + 1 == n {
         return at;
@@ -40,9 +41,12 @@ pub fn next_place(at: usize, n: usize, k: usize) -> usize
 
 // Twice the vector area of n points at `at`, from the first.
 fn area_normal(s: &[u8], at: usize, n: usize) -> Vector
-    requires { ⌜ PointsNear at n ⌝ }
+    requires { ⌜ PointsIn (now s) at n ⌝ }
     ensures { λ r. ⌜ r ≡ areaNormal (pointsAt (now (s .entry)) n at) ⌝ }
 {
+    if n == 0 {
+        return Vector::ZERO;
+    }
     let first = point_at(s, at);
     let mut p = first;
     let mut sum = Vector::ZERO;
@@ -58,9 +62,12 @@ fn area_normal(s: &[u8], at: usize, n: usize) -> Vector
 
 // The normal of the lid over n corners at `at`.
 pub fn lid_normal(s: &[u8], at: usize, n: usize) -> Vector
-    requires { ⌜ Near at n ⌝ }
+    requires { ⌜ CornersIn (now s) at n ⌝ }
     ensures { λ r. ⌜ r ≡ lidNormal (cornersAt (now (s .entry)) n at) ⌝ }
 {
+    if n == 0 {
+        return plane::lid_normal(Vector::ZERO, Vector::ZERO);
+    }
     let mut a = corner_at(s, at);
     let first = a.top;
     let mut area = Vector::ZERO;
@@ -78,7 +85,7 @@ pub fn lid_normal(s: &[u8], at: usize, n: usize) -> Vector
 
 // The lid's normal or its reverse, whichever the bases of n corners at `at` run anticlockwise about.
 pub fn about(s: &[u8], at: usize, n: usize, lid: Vector) -> Vector
-    requires { ⌜ Near at n ⌝ }
+    requires { ⌜ CornersIn (now s) at n ⌝ }
     ensures { λ r. ⌜ r ≡ about (cornersAt (now (s .entry)) n at) lid ⌝ }
 {
     plane::about(area_normal(s, at, n), lid)
@@ -86,6 +93,7 @@ pub fn about(s: &[u8], at: usize, n: usize, lid: Vector) -> Vector
 
 // Whether the base of the corner at `at` differs from its top.
 fn rises(s: &[u8], at: usize) -> bool
+    requires { ⌜ at + 24 ≤ length (now s) ⌝ }
     ensures { λ r. ⌜ r ≡ not (samePoint (cornerAt (now (s .entry)) at .base) (cornerAt (now (s .entry)) at .top)) ⌝ }
 {
     let c = corner_at(s, at);
@@ -96,7 +104,7 @@ fn rises(s: &[u8], at: usize) -> bool
 
 // Whether some base of n corners at `at` differs from its top.
 pub fn has_height(s: &[u8], at: usize, n: usize) -> bool
-    requires { ⌜ Near at n ⌝ }
+    requires { ⌜ CornersIn (now s) at n ⌝ }
     ensures { λ r. ⌜ r ≡ hasHeight (cornersAt (now (s .entry)) n at) ⌝ }
 {
     let mut k = 0;

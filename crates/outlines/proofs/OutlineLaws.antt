@@ -182,4 +182,4 @@ module _ (s : List ℕ) (i : ℕ) (closed : Bool) (outer holes : ℕ) {o : Outli
 
 -- an outline that can be drawn is within the limits, at small places
 pub can-place : (s : List ℕ) (i before : ℕ) (closed : Bool) (outer holes : ℕ) → CanDraw s i (Outline closed outer holes) before → Placed s i outer holes
-can-place s i before closed outer holes c = record { few = c .limits .0; corners = c .limits .1; near = omega (arith, c .inside, c .short) }
+can-place s i before closed outer holes c = record { few = c .limits .0; corners = c .limits .1; inside = omega (arith, c .inside) }

@@ -10,7 +10,7 @@ ghost use Rattle.face.specs.Drawing.{tally, drawing, Drew, Room};
 ghost use Rattle.lid.specs.Plane.{about};
 ghost use Rattle.shapes.specs.Shapes.{outerWalls, holeWalls};
 ghost use Rattle.shapes.specs.Drawn.{DrewObject};
-ghost use Rattle.lid_plane.specs.Outlines.{Near, outlineShape, Placed, Measured};
+ghost use Rattle.lid_plane.specs.Outlines.{CornersIn, outlineShape, Placed, Measured};
 ghost use Rattle.outlines.specs.Measures.{outlineIn};
 use face::Tally;
 use lid_faces::cap;
@@ -28,7 +28,7 @@ use walls::walls;
 // What the walls of n outer corners at `at` are square to: the lid's normal, so that they face out, or
 // nothing where the outline is open.
 fn square_to(s: &[u8], at: usize, n: usize, closed: bool, lid: Vector) -> Vector
-    requires { ⌜ Near at n ⌝ }
+    requires { ⌜ CornersIn (now s) at n ⌝ }
     ensures { λ r. ⌜ r ≡ cond closed (about (cornersAt (now (s .entry)) n at) lid) zeroV ⌝ }
 {
     if closed {

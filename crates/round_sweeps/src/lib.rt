@@ -18,6 +18,7 @@ use geometry::section_at;
 use sections::places_of;
 
 fn centre_at(s: &[u8], i: usize) -> Point
+    requires { ⌜ i + 48 ≤ length (now s) ⌝ }
     ensures { λ r. ⌜ r ≡ ellipse (sectionAt (now (s .entry)) i) .centre ⌝ }
 {
     centre(section_at(s, i))

@@ -87,3 +87,9 @@ module _ (s : List ℕ) (at : ℕ) (f : Section → Point) where
   ends-are make n {second} h p =
       ap₂ (λ (l b : ℕ). make (sectionAt s at) (diff (f (sectionAt s at)) (f (sectionAt s second))) (sectionAt s l) (diff (f (sectionAt s l)) (f (sectionAt s b)))) (p .end) (p .beside-end)
       ∙ ap₂ (λ (u w : Vector). make (sectionAt s at) u (sectionAt s (at + 48 * (n - 1))) w) (start-is n second h (p .alone) (p .others)) (end-is n h)
+
+-- the section beside the first one lies among the n sections
+pub second-in : {at k bytes second last previous : ℕ} (n : ℕ) → k < n → EndPlaces at n second last previous → at + 48 * n ≤ bytes → second + 48 ≤ bytes
+second-in zero h p l = absurd (not-suc-le-zero h)
+second-in (suc zero) h p l = omega (arith, p .alone refl)
+second-in (suc (suc n)) h p l = omega (arith, p .others (omega arith))

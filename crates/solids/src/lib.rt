@@ -1,6 +1,6 @@
 // A solid drawn from its record: a box, a cylinder, or nothing where it has no size.
 ghost use mathlib.Core.Path.{_≡_};
-ghost use Prim.Native.Nat.{_+_, _<_};
+ghost use Prim.Native.Nat.{_+_, _≤_};
 ghost use lib.ListN.{length};
 ghost use Rattle.fields.specs.Fields.{pointAt, orientationAt};
 ghost use Rattle.face.specs.Drawing.{drawing, Drew, Room};
@@ -9,17 +9,6 @@ use boxes::cuboid;
 use cylinders::cylinder;
 use face::Tally;
 use object::Extent;
-use object::Orientation;
-
-// The orientation behind the position at i.
-fn turn_at(s: &[u8], i: usize) -> Orientation
-    ensures { λ r. ⌜ r ≡ orientationAt (now (s .entry)) (i + 12) ⌝ }
-{
-    if s.len() <= i {
-        return geometry::orientation_at(s, i);
-    }
-    geometry::orientation_at(s, i + 12)
-}
 
 // A solid whose position and orientation lie at i of the scene's bytes.
 pub fn solid(
@@ -33,11 +22,11 @@ pub fn solid(
     ns: &mut [f32],
     is: &mut [u32],
 ) -> Tally
-    requires { ⌜ Room before t 96 60 ⌝ }
+    requires { ⌜ (i + 60 ≤ length (now s)) × Room before t 96 60 ⌝ }
     ensures { λ r. ⌜ Drew limit (solidFaces (pointAt (now (s .entry)) i) (orientationAt (now (s .entry)) (i + 12)) extent) before (drawing t (now (vs .entry)) (now (ns .entry)) (now (is .entry))) (drawing r (now (vs .exit)) (now (ns .exit)) (now (is .exit))) ⌝ }
 {
     let origin = geometry::point_at(s, i);
-    let turn = turn_at(s, i);
+    let turn = geometry::orientation_at(s, i + 12);
     match extent {
         Extent::Box(length, width, height) => {
             cuboid(

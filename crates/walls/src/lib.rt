@@ -5,7 +5,7 @@ ghost use Rattle.lists.specs.Loops.{join, sumOf};
 ghost use Rattle.fields.specs.Fields.{cornersAt, countsAt, holesAt};
 ghost use Rattle.face.specs.Drawing.{drawing, Drew, Room};
 ghost use Rattle.shapes.specs.Shapes.{walls, holeWalls};
-ghost use Rattle.lid_plane.specs.Outlines.{Near};
+ghost use Rattle.lid_plane.specs.Outlines.{CornersIn};
 use face::Tally;
 use fields::u16_at;
 use geometry::corner_at;
@@ -27,19 +27,18 @@ pub fn walls(
     ns: &mut [f32],
     is: &mut [u32],
 ) -> Tally
-    requires { ⌜ Near at n × (edges ≤ n) × Room before t (4 * edges) (2 * edges) ⌝ }
+    requires { ⌜ CornersIn (now s) at n × (edges ≤ n) × Room before t (4 * edges) (2 * edges) ⌝ }
     ensures { λ r. ⌜ Drew limit (walls (cornersAt (now (s .entry)) n at) normal edges) before (drawing t (now (vs .entry)) (now (ns .entry)) (now (is .entry))) (drawing r (now (vs .exit)) (now (ns .exit)) (now (is .exit))) ⌝ }
 {
     let mut t = t;
-    let mut a = corner_at(s, at);
     let mut k = 0;
     while k < edges {
+        let a = corner_at(s, at + 24 * k);
         let b = corner_at(s, next_place(at, n, k));
         let p = a.base;
         let out = b.base.sub(p).cross(normal);
         k += 1;
         t = face::quad(p, b.base, b.top, a.top, out, limit, before, t, vs, ns, is);
-        a = b;
     }
     t
 }
@@ -58,7 +57,7 @@ pub fn hole_walls(
     ns: &mut [f32],
     is: &mut [u32],
 ) -> Tally
-    requires { ⌜ (counts + 2 * holes ≤ at) × Near at (sumOf (λ k. k) (countsAt (now s) holes counts)) ⌝ }
+    requires { ⌜ (counts + 2 * holes ≤ at) × CornersIn (now s) at (sumOf (λ k. k) (countsAt (now s) holes counts)) ⌝ }
     requires { ⌜ Room before t (4 * sumOf (λ k. k) (countsAt (now s) holes counts)) (2 * sumOf (λ k. k) (countsAt (now s) holes counts)) ⌝ }
     ensures { λ r. ⌜ Drew limit (join (holeWalls lid) (holesAt (now (s .entry)) (countsAt (now (s .entry)) holes counts) at)) before (drawing t (now (vs .entry)) (now (ns .entry)) (now (is .entry))) (drawing r (now (vs .exit)) (now (ns .exit)) (now (is .exit))) ⌝ }
 {

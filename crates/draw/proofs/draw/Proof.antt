@@ -12,7 +12,9 @@ use Rattle.draw.proofs.draw.Statement.{statement}
 use Rattle.draw.proofs.draw.Tie as tie
 
 solid-requires : tie.Need-solid-requires
-solid-requires c κs = let few = c .before .before .before .before .before .before .before .before .before .before .before .before .pre .few in record { vertices = omega (arith, few); kept = omega arith; thin = omega arith }
+solid-requires c κs =
+    let d = rw (c .before .before .before .before .before .body .given .1) at (c .before .before .before .before .before .before .before .before .before .before .before .before .pre) in
+    (omega (arith, d .inside), record { vertices = omega (arith, d .few); kept = omega arith; thin = omega arith })
 
 outline-requires : tie.Need-outline-requires
 outline-requires c κs = let d = rw (c .before .before .before .before .before .body2 .given .1) at (c .before .before .before .before .before .before .before .before .before .before .before .before .pre) in (can-place _ _ _ _ _ _ d, d .few)

@@ -1,12 +1,11 @@
 -- `geometry::point_at` meets its contract. Assumes nothing.
-use native.Mathlib.Nat.{le-of-lt}
 use borrow.Author.Needs.{needs}
-use Rattle.fields.proofs.Fields.{point-past}
+use Rattle.fields.proofs.Fields.{point-of}
 use Rattle.geometry.proofs.point_at.Statement.{statement}
 use Rattle.geometry.proofs.point_at.Tie as tie
 
 returns : tie.Need-returns
-returns c = point-past _ _ (le-of-lt (c .if1 .taken))
+returns c = point-of _ _ (c .before .before .f32-in .ensures) (c .before .f32-in2 .ensures) (c .f32-in3 .ensures)
 
 pub point-at-spec : {M : Type 1} → statement M
-point-at-spec = tie.close (tie.spec returns (λ c. search needs) (λ c κs. search needs) (λ c. search needs) (λ c κs. search needs) (λ c. search needs))
+point-at-spec = tie.close (tie.spec (λ c κs. search needs) (λ c. search needs) (λ c κs. search needs) (λ c. search needs) (λ c κs. search needs) returns)

@@ -9,7 +9,7 @@ use Rattle.lid_cuts.proofs.cut.Statement.{statement}
 use Rattle.lid_cuts.proofs.cut.Tie as tie
 
 lay-flat-requires : tie.Need-lay-flat-requires
-lay-flat-requires c κs = let p = c .before .before .before .before .before .before .before .pre in (omega (arith, p .0 .place, p .0 .all, p .0 .placed .near), p .1)
+lay-flat-requires c κs = let p = c .before .before .before .before .before .before .before .pre in (omega (arith, p .0 .place, p .0 .all, p .0 .placed .inside), p .1)
 
 triangulate-requires : tie.Need-triangulate-requires
 triangulate-requires c κs =
@@ -26,6 +26,6 @@ returns c =
 pub cut-spec : {M : Type 1} → statement M
 cut-spec =
     tie.close
-    (tie.spec (λ c. omega (arith, c .before .before .before .before .before .pre .0 .all, c .before .before .before .before .before .pre .0 .placed .corners)) (λ c. omega (arith, c .before .before .before .before .before .before .pre .0 .place, c .before .before .before .before .before .before .pre .0 .placed .near)) lay-flat-requires (λ c. omega (arith, c .before .before .before .before .before .before .before .before .before .before .before .pre .0 .placed .near)) (λ c. refl)
-    (λ c κs. (omega (arith, c .before .before .before .before .before .before .before .before .before .before .before .before .pre .0 .placed .near, c .before .before .before .before .before .before .before .before .before .before .before .before .pre .0 .placed .few), omega (arith, c .before .before .before .before .before .before .before .before .before .before .before .before .pre .0 .placed .few))) (λ c. sym (length-take-le _ _ (omega (arith, c .before .before .before .before .before .before .before .before .before .before .before .before .before .before .before .before .pre .1, c .before .before .before .before .before .before .before .room .given)))) (λ c. omega (arith, c .before .before .before .before .before .before .before .before .before .before .before .before .before .before .before .before .pre .0 .all, c .before .before .before .before .before .before .before .before .before .before .before .before .before .before .before .before .pre .0 .placed .corners)) (λ c. omega (arith, c .before .before .before .before .before .before .before .before .before .before .before .before .before .before .before .before .pre .1, c .before .before .before .before .before .before .before .room .given)) (λ c. omega (arith, c .before .before .before .before .before .before .before .before .before .before .before .before .before .before .before .before .pre .1, c .before .before .before .before .before .before .before .room .given)) (λ c. omega (arith, c .before .before .before .before .before .before .before .before .before .before .before .before .before .before .before .before .pre .1, c .before .before .before .before .before .before .before .room .given))
+    (tie.spec (λ c. omega (arith, c .before .before .before .before .before .pre .0 .all, c .before .before .before .before .before .pre .0 .placed .corners)) (λ c. omega (arith, c .before .before .before .before .before .before .pre .0 .place, c .before .before .before .before .before .before .pre .0 .placed .inside)) lay-flat-requires (λ c. omega (arith, c .before .before .before .before .before .before .before .before .before .before .before .pre .0 .placed .inside)) (λ c. refl)
+    (λ c κs. (omega (arith, c .before .before .before .before .before .before .before .before .before .before .before .before .pre .0 .placed .inside, c .before .before .before .before .before .before .before .before .before .before .before .before .pre .0 .placed .few), omega (arith, c .before .before .before .before .before .before .before .before .before .before .before .before .pre .0 .placed .few))) (λ c. sym (length-take-le _ _ (omega (arith, c .before .before .before .before .before .before .before .before .before .before .before .before .before .before .before .before .pre .1, c .before .before .before .before .before .before .before .room .given)))) (λ c. omega (arith, c .before .before .before .before .before .before .before .before .before .before .before .before .before .before .before .before .pre .0 .all, c .before .before .before .before .before .before .before .before .before .before .before .before .before .before .before .before .pre .0 .placed .corners)) (λ c. omega (arith, c .before .before .before .before .before .before .before .before .before .before .before .before .before .before .before .before .pre .1, c .before .before .before .before .before .before .before .room .given)) (λ c. omega (arith, c .before .before .before .before .before .before .before .before .before .before .before .before .before .before .before .before .pre .1, c .before .before .before .before .before .before .before .room .given)) (λ c. omega (arith, c .before .before .before .before .before .before .before .before .before .before .before .before .before .before .before .before .pre .1, c .before .before .before .before .before .before .before .room .given))
     (λ c. omega (arith, c .before .before .before .before .before .before .before .before .before .before .before .before .before .before .before .before .before .pre .0 .placed .few, c .before .before .before .counts2 .given)) (λ c. sym (length-take-le _ _ (omega (arith, c .before .before .before .before .before .before .before .before .before .before .before .before .before .before .before .before .before .before .pre .0 .placed .few, c .before .before .before .before .counts2 .given)))) triangulate-requires (λ c. c .before .before .before .before .before .before .before .before .before .before .before .before .before .before .before .before .room .given) (λ c. c .before .before .before .log .given) (λ c. c .before .triangles .given) returns)

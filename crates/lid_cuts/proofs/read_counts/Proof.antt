@@ -24,7 +24,7 @@ loop-again : tie.Need-loop-again Inv-loop μ-loop
 loop-again c =
     let a = c .before .before .before .before .before .args in
     let l = c .before .before .loop in
-    (omega arith, simp length-set (l .inv .1), front-next (λ j. u16At (a .s .now) (a .at + 2 * j)) (l .counts) (l .k) _ (omega arith) (c .u16-at .ensures) (l .inv .2))
+    (omega arith, simp length-set (l .inv .1), front-next (λ j. u16At (a .s .now) (a .at + 2 * j)) (l .counts) (l .k) _ (omega arith) (c .u16-in .ensures) (l .inv .2))
 
 returns : tie.Need-returns Inv-loop μ-loop
 unfolding countsAt
@@ -36,5 +36,5 @@ returns c =
 pub read-counts-spec : {M : Type 1} → statement M
 read-counts-spec =
     tie.close
-    (tie.spec Inv-loop μ-loop loop-holds (λ c. omega arith) (λ c. omega arith) (λ c κs. tt) (λ c. search needs) (λ c. omega arith)
+    (tie.spec Inv-loop μ-loop loop-holds (λ c. omega arith) (λ c. omega arith) (λ c κs. omega arith) (λ c. search needs) (λ c. omega arith)
     (λ c. omega arith) (λ c. omega arith) (λ c. omega arith) loop-again (λ c. c .before .loop .inv .1) returns)

@@ -14,7 +14,7 @@ lid-faces-requires : tie.Need-lid-faces-requires
 lid-faces-requires c κs =
     let p = c .before .before .before .before .before .before .before .before .before .before .before .before .before .before .before .before .before .before .before .before .before .before .before .pre in
     let d = c .before .before .before .before .before .before .before .before .before .before .before .before .cut .ensures in
-    ((omega (arith, p .0 .0 .place, p .0 .0 .all, p .0 .0 .placed .near), omega (arith, p .1 .0, c .before .before .before .before .before .before .before .before .before .before .before .room .given), p .0 .1), lid-asks _ _ (p .0 .0) (p .0 .2) (d .offered) (d .drawn) (p .1 .1))
+    ((omega (arith, p .0 .0 .place, p .0 .0 .all, p .0 .0 .placed .inside), omega (arith, p .1 .0, c .before .before .before .before .before .before .before .before .before .before .before .room .given), p .0 .1), lid-asks _ _ (p .0 .0) (p .0 .2) (d .offered) (d .drawn) (p .1 .1))
 
 closed-price-requires : tie.Need-closed-price-requires
 closed-price-requires c κs =

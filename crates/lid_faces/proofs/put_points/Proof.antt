@@ -39,5 +39,5 @@ returns c =
 pub put-points-spec : {M : Type 1} → statement M
 put-points-spec =
     tie.close
-    (tie.spec Inv-loop μ-loop loop-holds (λ c. search needs) (λ c. omega arith) (λ c. omega arith) (λ c κs. tt) (λ c κs. tt)
+    (tie.spec Inv-loop μ-loop loop-holds (λ c. search needs) (λ c. omega arith) (λ c. omega arith) (λ c κs. omega arith) (λ c κs. tt)
     (λ c. omega arith) (λ c. omega arith) loop-again (λ c. c .before .loop .inv .1) returns)

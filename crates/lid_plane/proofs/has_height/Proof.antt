@@ -42,5 +42,5 @@ returns-2 c =
 pub has-height-spec : {M : Type 1} → statement M
 has-height-spec =
     tie.close
-    (tie.spec Inv-loop μ-loop loop-holds (λ c. omega arith) (λ c. omega arith) (λ c κs. tt) returns (λ c. omega arith) (λ c. omega arith)
+    (tie.spec Inv-loop μ-loop loop-holds (λ c. omega arith) (λ c. omega arith) (λ c κs. omega arith) returns (λ c. omega arith) (λ c. omega arith)
     loop-again returns-2)

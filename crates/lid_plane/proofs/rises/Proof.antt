@@ -1,5 +1,6 @@
 -- `lid_plane::rises` meets its contract. Assumes nothing.
 use Prim.Native.Nat.{_-_}
+use native.Mathlib.Omega.{arith}
 use Rattle.lid_plane.proofs.rises.Statement.{statement}
 use Rattle.lid_plane.proofs.rises.Tie as tie
 
@@ -8,4 +9,4 @@ returns c = rw (c .eq .ensures, c .before .before .before .corner-at .ensures)
 
 pub rises-spec : {M : Type 1} → statement M
 rises-spec = tie.close
-    (tie.spec (λ c κs. tt) (λ c κs. tt) returns)
+    (tie.spec (λ c κs. omega arith) (λ c κs. tt) returns)

@@ -19,5 +19,5 @@ returns-2 c =
 pub outline-at-spec : {M : Type 1} → statement M
 outline-at-spec =
     tie.close
-    (tie.spec (λ c. omega (arith, c .before .pre .near)) (λ c. omega (arith, c .before .pre .near)) (λ c. omega (arith, c .before .pre .near)) (λ c. omega (arith, c .before .pre .near)) (λ c κs. tt) (λ c. omega (arith, c .before .before .pre .corners, c .sum-counts .ensures .0)) (λ c. omega (arith, c .before .before .pre .corners, c .sum-counts .ensures .0))
-    (λ c κs. omega (arith, c .before .before .pre .near)) (λ c. omega (arith, c .before .before .before .before .pre .corners, c .before .before .sum-counts .ensures .0)) (λ c κs. omega (arith, c .before .before .before .before .pre .near, c .before .before .sum-counts .ensures .0)) returns returns-2)
+    (tie.spec (λ c. omega (arith, c .before .pre .inside)) (λ c. omega (arith, c .before .pre .inside)) (λ c. omega (arith, c .before .pre .inside)) (λ c. omega (arith, c .before .pre .inside)) (λ c κs. tt) (λ c. omega (arith, c .before .before .pre .corners, c .sum-counts .ensures .0)) (λ c. omega (arith, c .before .before .pre .corners, c .sum-counts .ensures .0))
+    (λ c κs. omega (arith, c .before .before .pre .inside)) (λ c. omega (arith, c .before .before .before .before .pre .corners, c .before .before .sum-counts .ensures .0)) (λ c κs. omega (arith, c .before .before .before .before .pre .inside, c .before .before .sum-counts .ensures .0)) returns returns-2)

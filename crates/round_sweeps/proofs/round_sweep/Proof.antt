@@ -12,6 +12,7 @@ use Rattle.object.specs.declared.Section.{Section}
 use Rattle.fields.specs.Fields.{sectionAt, sectionsAt}
 use Rattle.shapes.specs.Shapes.{pairs, ellipse, endFace, tubeFaces}
 use Rattle.round_sweeps.specs.Rings.{ringAbout}
+use Rattle.sections.proofs.Neighbours.{second-in}
 use Rattle.round_sweeps.proofs.RingFaces.{tube-points, tube-triangles, tube-drawn, ring-size, round-none, round-drawn}
 use Rattle.round_sweeps.proofs.round_sweep.Statement.{statement}
 use Rattle.round_sweeps.proofs.round_sweep.Tie as tie
@@ -59,9 +60,10 @@ returns-2 c = let a = c .before .before .before .before .before .before .before 
 pub round-sweep-spec : {M : Type 1} → statement M
 round-sweep-spec =
     tie.close
-    (tie.spec Inv-loop μ-loop returns (λ c κs. tt) (λ c κs. tt) (λ c κs. tt) loop-holds (λ c. omega arith) (λ c. omega arith) (λ c. omega arith) (λ c. omega arith)
-    (λ c κs. tt) (λ c κs. tt) (λ c κs. tt) tube-requires add-k (λ c. omega arith) loop-again places-of-requires (λ c κs. tt) (λ c κs. tt) (λ c κs. tt)
-    (λ c κs. tt) (λ c κs. tt) end-requires end-requires-2
+    (tie.spec Inv-loop μ-loop returns (λ c κs. omega arith) (λ c κs. tt) (λ c κs. omega arith) loop-holds (λ c. omega arith) (λ c. omega arith) (λ c. omega arith) (λ c. omega arith)
+    (λ c κs. omega arith) (λ c κs. tt) (λ c κs. tt) tube-requires add-k (λ c. omega arith) loop-again places-of-requires (λ c κs. omega arith)
+    (λ c κs. second-in _ (c .before .before .before .loop .inv .0) (c .before .places-of .ensures) (c .before .before .before .before .before .before .before .before .before .before .before .before .pre .0)) (λ c κs. tt)
+    (λ c κs. omega (arith, c .before .before .before .places-of .ensures .beside-end, c .before .before .before .before .before .before .before .before .before .before .before .before .before .before .pre .0)) (λ c κs. tt) end-requires end-requires-2
     (λ c. c .before .before .before .before .before .before .end2 .kept .1 .1 .1 .1 .1 .0 ∙ c .before .before .before .before .before .before .before .before .before .before .before .before .before .before .before .before .end .kept .1 .1 .1 .1 .1 .0 ∙ drew-vertices (c .before .before .before .before .before .before .before .before .before .before .before .before .before .before .before .before .before .before .before .before .before .before .before .before .before .before .before .before .before .before .before .before .before .before .before .before .args .limit) (c .before .before .before .before .before .before .before .before .before .before .before .before .before .before .before .before .before .before .before .before .before .before .before .before .before .before .before .loop .inv .3))
     (λ c. c .before .before .before .before .before .before .end2 .kept .1 .1 .1 .1 .1 .1 .0 ∙ c .before .before .before .before .before .before .before .before .before .before .before .before .before .before .before .before .end .kept .1 .1 .1 .1 .1 .1 .0 ∙ drew-normals (c .before .before .before .before .before .before .before .before .before .before .before .before .before .before .before .before .before .before .before .before .before .before .before .before .before .before .before .before .before .before .before .before .before .before .before .before .args .limit) (c .before .before .before .before .before .before .before .before .before .before .before .before .before .before .before .before .before .before .before .before .before .before .before .before .before .before .before .loop .inv .3))
     (λ c. c .before .before .before .before .before .before .end2 .kept .1 .1 .1 .1 .1 .1 .1 .0 ∙ c .before .before .before .before .before .before .before .before .before .before .before .before .before .before .before .before .end .kept .1 .1 .1 .1 .1 .1 .1 .0 ∙ drew-indices (c .before .before .before .before .before .before .before .before .before .before .before .before .before .before .before .before .before .before .before .before .before .before .before .before .before .before .before .before .before .before .before .before .before .before .before .before .args .limit) (c .before .before .before .before .before .before .before .before .before .before .before .before .before .before .before .before .before .before .before .before .before .before .before .before .before .before .before .loop .inv .3)) returns-2)

@@ -1,6 +1,6 @@
 -- `sweeps::sweep` meets its contract: the faces drawn are those between the sections up to k, and then the caps. Assumes nothing.
 use mathlib.Core.Path.{_≡_, ap, _∙_}
-use Prim.Native.Nat.{ℕ, _+_, _-_, _*_, _<_, _≤_}
+use Prim.Native.Nat.{ℕ, _+_, _-_, _*_, _<_}
 use native.Mathlib.Omega.{arith}
 use Rattle.lists.specs.Loops.{list, sumOf}
 use Rattle.face.specs.Faces.{fan, quad}
@@ -8,7 +8,7 @@ use Rattle.face.specs.Drawing.{drawing, Drew, Room}
 use Rattle.face.proofs.Draws.{drew-room, drew-none, drew-vertices, drew-normals, drew-indices, room-less}
 use Rattle.fields.specs.Fields.{sectionAt, sectionsAt}
 use Rattle.shapes.specs.Shapes.{pairFaces, pairs}
-use Rattle.sections.proofs.Neighbours.{pair-drawn}
+use Rattle.sections.proofs.Neighbours.{pair-drawn, second-in}
 use Rattle.sweeps.proofs.SweepFaces.{pair-points, pair-triangles, sweep-drawn, sweep-none}
 use Rattle.sweeps.proofs.sweep.Statement.{statement}
 use Rattle.sweeps.proofs.sweep.Tie as tie
@@ -54,9 +54,10 @@ returns-2 c = let a = c .before .before .before .before .before .before .before 
 pub sweep-spec : {M : Type 1} → statement M
 sweep-spec =
     tie.close
-    (tie.spec Inv-loop μ-loop returns (λ c κs. tt) loop-holds (λ c. omega arith) (λ c. omega arith) (λ c. omega arith) (λ c. omega arith)
-    (λ c κs. tt) pair-requires add-k (λ c. omega arith) loop-again places-of-requires (λ c κs. tt) (λ c κs. tt) (λ c κs. tt) quad-requires
-    (λ c κs. tt) (λ c κs. tt) quad-requires-2
+    (tie.spec Inv-loop μ-loop returns (λ c κs. omega arith) loop-holds (λ c. omega arith) (λ c. omega arith) (λ c. omega arith) (λ c. omega arith)
+    (λ c κs. omega arith) pair-requires add-k (λ c. omega arith) loop-again places-of-requires (λ c κs. omega arith)
+    (λ c κs. omega (arith, second-in _ (c .before .before .before .loop .inv .0) (c .before .places-of .ensures) (c .before .before .before .before .before .before .before .before .before .before .pre .0))) (λ c κs. tt) quad-requires
+    (λ c κs. omega (arith, c .before .before .before .before .before .before .before .before .before .before .before .before .before .places-of .ensures .beside-end, c .before .before .before .before .before .before .before .before .before .before .before .before .before .before .before .before .before .before .before .before .before .before .pre .0)) (λ c κs. tt) quad-requires-2
     (λ c. c .before .before .before .before .before .before .quad2 .kept .1 .1 .1 .1 .1 .1 .1 .1 .0 ∙ c .before .before .before .before .before .before .before .before .before .before .before .before .before .before .before .before .before .before .quad .kept .1 .1 .1 .1 .1 .1 .1 .1 .0 ∙ drew-vertices (c .before .before .before .before .before .before .before .before .before .before .before .before .before .before .before .before .before .before .before .before .before .before .before .before .before .before .before .before .before .before .before .before .before .before .args .limit) (c .before .before .before .before .before .before .before .before .before .before .before .before .before .before .before .before .before .before .before .before .before .before .before .before .before .before .before .loop .inv .2))
     (λ c. c .before .before .before .before .before .before .quad2 .kept .1 .1 .1 .1 .1 .1 .1 .1 .1 .0 ∙ c .before .before .before .before .before .before .before .before .before .before .before .before .before .before .before .before .before .before .quad .kept .1 .1 .1 .1 .1 .1 .1 .1 .1 .0 ∙ drew-normals (c .before .before .before .before .before .before .before .before .before .before .before .before .before .before .before .before .before .before .before .before .before .before .before .before .before .before .before .before .before .before .before .before .before .before .args .limit) (c .before .before .before .before .before .before .before .before .before .before .before .before .before .before .before .before .before .before .before .before .before .before .before .before .before .before .before .loop .inv .2))
     (λ c. c .before .before .before .before .before .before .quad2 .kept .1 .1 .1 .1 .1 .1 .1 .1 .1 .1 .0 ∙ c .before .before .before .before .before .before .before .before .before .before .before .before .before .before .before .before .before .before .quad .kept .1 .1 .1 .1 .1 .1 .1 .1 .1 .1 .0 ∙ drew-indices (c .before .before .before .before .before .before .before .before .before .before .before .before .before .before .before .before .before .before .before .before .before .before .before .before .before .before .before .before .before .before .before .before .before .before .args .limit) (c .before .before .before .before .before .before .before .before .before .before .before .before .before .before .before .before .before .before .before .before .before .before .before .before .before .before .before .loop .inv .2)) returns-2)

@@ -1,6 +1,6 @@
 -- `walls::hole_walls` meets its contract. Assumes nothing.
 use mathlib.Core.Path.{_≡_, refl, _∙_}
-use Prim.Native.Nat.{_^_, _≤_, _<_, _+_, _-_, _*_}
+use Prim.Native.Nat.{_≤_, _<_, _+_, _-_, _*_}
 use native.Mathlib.Omega.{arith}
 use native.Mathlib.Nat.{le-refl}
 use lib.ListN.{length}
@@ -15,7 +15,7 @@ use Rattle.walls.proofs.hole_walls.Statement.{statement}
 use Rattle.walls.proofs.hole_walls.Tie as tie
 
 abbrev Inv-loop : tie.InvT-loop
-Inv-loop s counts holes at lid limit before vs₀ ns₀ is₀ t₀ place₀ k₀ vs ns is t place k = (k ≤ holes) × (length vs ≡ length vs₀) × (length ns ≡ length ns₀) × (length is ≡ length is₀) × (place + 24 * countsLeft (λ j. u16At s (counts + 2 * j)) holes k < 2 ^ 32) × Room before t (4 * countsLeft (λ j. u16At s (counts + 2 * j)) holes k) (2 * countsLeft (λ j. u16At s (counts + 2 * j)) holes k) × (drawn limit (holesLeft limit before s lid (λ j. u16At s (counts + 2 * j)) holes k place) before (drawing t vs ns is) ≡ drawn limit (join (holeWalls lid) (holesAt s (countsAt s holes counts) at)) before (drawing t₀ vs₀ ns₀ is₀))
+Inv-loop s counts holes at lid limit before vs₀ ns₀ is₀ t₀ place₀ k₀ vs ns is t place k = (k ≤ holes) × (length vs ≡ length vs₀) × (length ns ≡ length ns₀) × (length is ≡ length is₀) × (place + 24 * countsLeft (λ j. u16At s (counts + 2 * j)) holes k ≤ length s) × Room before t (4 * countsLeft (λ j. u16At s (counts + 2 * j)) holes k) (2 * countsLeft (λ j. u16At s (counts + 2 * j)) holes k) × (drawn limit (holesLeft limit before s lid (λ j. u16At s (counts + 2 * j)) holes k place) before (drawing t vs ns is) ≡ drawn limit (join (holeWalls lid) (holesAt s (countsAt s holes counts) at)) before (drawing t₀ vs₀ ns₀ is₀))
 
 abbrev μ-loop : tie.MeasureT-loop
 μ-loop s counts holes at lid limit before vs₀ ns₀ is₀ t₀ place₀ k₀ vs ns is t place k = holes - k

@@ -36,5 +36,5 @@ returns-2 c = let a = c .before .before .before .before .before .args in let l =
 pub sweep-price-spec : {M : Type 1} → statement M
 sweep-price-spec =
     tie.close
-    (tie.spec Inv-loop μ-loop returns (λ c κs. tt) loop-holds (λ c. omega arith) (λ c. omega arith) (λ c. omega arith) (λ c. omega arith)
-    (λ c κs. tt) (λ c κs. tt) add-sum (λ c. omega arith) (λ c. omega arith) loop-again (λ c. omega arith) returns-2)
+    (tie.spec Inv-loop μ-loop returns (λ c κs. omega arith) loop-holds (λ c. omega arith) (λ c. omega arith) (λ c. omega arith) (λ c. omega arith)
+    (λ c κs. omega arith) (λ c κs. tt) add-sum (λ c. omega arith) (λ c. omega arith) loop-again (λ c. omega arith) returns-2)
