@@ -1,9 +1,9 @@
 -- One face drawn: what its triangles came to, and its points stored, are what specs/Faces.antt writes of it. Assumes nothing.
-use mathlib.Core.Path.{_≡_, refl, sym, ap, _∙_}
+use mathlib.Core.Path.{_≡_, refl, sym, ap, ap₂, subst, _∙_}
 use Prim.Native.Nat.{ℕ, _+_, _*_, _/_}
 use native.Mathlib.Nat.{add-zero, zero-add}
 use native.Mathlib.Omega.{arith}
-use mathlib.Core.Bool.{Bool, true, false}
+use mathlib.Core.Bool.{Bool, true, false, cond}
 use mathlib.Core.List.{List, [], _∷_, append-nil}
 use borrow.Author.Tests.{eqb-true, eqb-false}
 use lib.Dec.{eqb}
@@ -13,12 +13,14 @@ use lib.Ieee.{Float}
 use Rattle.lists.specs.Loops.{join, sumOf}
 use Rattle.lists.proofs.Lists.{length-list}
 use Rattle.lists.proofs.Buffers.{threes-back}
+use Rattle.lists.proofs.Stores.{sets-none}
 use Rattle.vectors.specs.declared.Vector.{Vector}
 use Rattle.vectors.specs.Vectors.{unitZ, normalizeOr}
 use Rattle.coords.specs.declared.Point.{Point}
 use Rattle.coords.specs.Buffers.{vertexNumbers, normalNumbers}
 use Rattle.face.specs.declared.Tally.{Tally}
 use Rattle.face.specs.Faces.{Triangle, triangle, Face, thinIn, keptOf, faceNormal, nothing, behind, numbered, writeKept, writeFace, writeFaces}
+use Rattle.offering.specs.declared.Sum.{Sum}
 use Rattle.offering.specs.Triangles.{triangleRecord, triangleAt, trianglesIn}
 use Rattle.offering.specs.Offered.{Offered, offered, noSum, offerAll}
 use Rattle.face.specs.Drawing.{tally, Drawing, drawing, counted, drawn, countedWith, verticesWith, normalsWith, Drew}
@@ -120,3 +122,20 @@ module _ (limit : Float) (ps : List Point) (ts : List Triangle) (out : Vector) w
             (drawing (countedWith b (length ps) (o .sum) t) (verticesWith b ps (t .vertices) vs) (normalsWith b ps (o .sum .normal) (t .vertices) ns) (o .indices))
         go true h = none (eqb-true (o .sum .kept) 0 h)
         go false h = some (eqb-false (o .sum .kept) 0 h)
+
+    -- where there is no room, only what is counted shows
+    module _ (no-vs : length vs ≡ 0) (no-ns : length ns ≡ 0) (no-is : length is ≡ 0) where
+      stays : {A : Type 0} (b : Bool) (l : List A) (i : ℕ) (w : List A) → length l ≡ 0 → cond b l (sets l i w) ≡ l
+      stays true l i w h = refl
+      stays false l i w h = sym (sets-none l i w h)
+
+      pub face-counted : (s : Sum) → s .kept ≡ o .sum .kept → s .thin ≡ o .sum .thin
+          → Drew limit (one part ∷ []) before (drawing t vs ns is) (drawing (countedWith (eqb (s .kept) 0) (length ps) s t) vs ns is)
+      unfolding countedWith verticesWith normalsWith
+      face-counted s k h =
+          subst (Drew limit (one part ∷ []) before (drawing t vs ns is))
+          (same-drawing (ap₂ (λ (k h : ℕ). cond (eqb k 0) (tally (t .vertices) (t .kept) (t .thin + h)) (tally (t .vertices + length ps) (t .kept + k) (t .thin + h))) (sym k) (sym h))
+          (stays (eqb (o .sum .kept) 0) vs (3 * t .vertices) (vertexNumbers ps) no-vs)
+          (stays (eqb (o .sum .kept) 0) ns (3 * t .vertices) (normalNumbers (replicate (length ps) (normalizeOr (o .sum .normal) unitZ))) no-ns)
+          (indices-are part first (t .kept) is o e ∙ sym (sets-none is (3 * t .kept) (numbered first (keptOf limit (one part))) no-is)))
+          face-drawn

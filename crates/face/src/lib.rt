@@ -13,6 +13,7 @@ use coords::Point;
 use offering::Sum;
 use offering::offer_all;
 use offering::offer_quad;
+use offering::thin_in_quad;
 use vectors::Vector;
 use vertices::put_points;
 
@@ -77,6 +78,7 @@ pub fn face(
 }
 
 // A face of four points, as two triangles from the first, which are judged before the points are lent.
+// Without any room, as where a scene is measured, they are only counted.
 pub fn quad(
     a: Point,
     b: Point,
@@ -93,6 +95,15 @@ pub fn quad(
     requires { ⌜ Room before t 4 2 ⌝ }
     ensures { λ r. ⌜ ((part : ℕ) → Drew limit (quad part a b c d out ∷ []) before (drawing t (now (vs .entry)) (now (ns .entry)) (now (is .entry))) (drawing r (now (vs .exit)) (now (ns .exit)) (now (is .exit)))) ⌝ }
 {
+    if (vs.len() == 0) & (ns.len() == 0) & (is.len() == 0) {
+        let thin = thin_in_quad(a, b, c, d, limit);
+        let s = Sum {
+            normal: Vector::ZERO,
+            kept: 2 - thin,
+            thin,
+        };
+        return counted_with(t, s, 4);
+    }
     let base = before + t.vertices;
     let s = offer_quad(a, b, c, d, out, limit, base, t.kept, is);
     let points = [a.x, a.y, a.z, b.x, b.y, b.z, c.x, c.y, c.z, d.x, d.y, d.z];

@@ -17,6 +17,12 @@ module _ {A : Type 0} where
   sets-append l i [] b = rw add-zero
   sets-append l i (x ∷ a) b = rw (add-suc, ← suc-add) (sets-append (set l i x) (suc i) a b)
 
+  -- where there is no place every store is left out
+  pub sets-none : (l : List A) (i : ℕ) (w : List A) → length l ≡ 0 → l ≡ sets l i w
+  sets-none [] i [] h = refl
+  sets-none [] i (x ∷ w) h = sets-none [] (suc i) w refl
+  sets-none (y ∷ l) i w h = absurd (omega arith)
+
   -- three stores one after the other
   pub sets-three : (l : List A) (i : ℕ) (x y z : A) → set (set (set l i x) (i + 1) y) (i + 2) z ≡ sets l i (x ∷ y ∷ z ∷ [])
   sets-three l i x y z = rw (two, add-one i)

@@ -1,21 +1,14 @@
 -- `vertices::put_points` meets its contract: in a buffer without any place every store is left out. Assumes nothing.
-use mathlib.Core.Path.{_≡_, refl, sym, subst}
-use mathlib.Core.List.{List, [], _∷_}
-use Prim.Native.Nat.{ℕ, suc, _*_}
-use native.Mathlib.Omega.{arith}
+use mathlib.Core.Path.{sym, subst}
+use Prim.Native.Nat.{_*_}
 use lib.Dec.{T, eqb, eqb→eq}
 use lib.Ieee.Fits.{and-l, and-r}
 use lib.ListN.{length, replicate}
-use lib.Seq.{sets}
+use Rattle.lists.proofs.Stores.{sets-none}
 use Rattle.coords.specs.Buffers.{vertexNumbers, normalNumbers, verticesIn}
 use Rattle.vectors.specs.Vectors.{unitZ, normalizeOr}
 use Rattle.vertices.proofs.put_points.Statement.{statement}
 use Rattle.vertices.proofs.put_points.Tie as tie
-
-sets-none : {A : Type 0} (l : List A) (i : ℕ) (w : List A) → length l ≡ 0 → l ≡ sets l i w
-sets-none [] i [] h = refl
-sets-none [] i (x ∷ w) h = sets-none [] (suc i) w refl
-sets-none (y ∷ l) i w h = absurd (omega arith)
 
 returns : tie.Need-returns
 returns c =
