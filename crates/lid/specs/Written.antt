@@ -1,11 +1,12 @@
 -- What the code that cuts a lid writes into the buffers that it is lent, and the count that its limits speak of. Definitions only.
 use Prim.Native.Nat.{ℕ, _+_, _*_}
 use mathlib.Core.Path.{_≡_}
-use mathlib.Core.List.{List, [], _∷_}
+use mathlib.Core.List.{List}
 use lib.ListN.{length}
 use lib.Seq.{sets}
 use Rattle.lists.specs.Loops.{join, sumOf}
 use Rattle.face.specs.Faces.{Triangle}
+pub use Rattle.offering.specs.Triangles.{triangleRecord}
 use Rattle.lid.specs.declared.LidCounts.{LidCounts}
 use Rattle.lid.specs.Log.{Entry, logNumbers}
 
@@ -16,9 +17,6 @@ cornerTotal outer counts = outer + sumOf (λ n. n) counts
 -- the log with entries written from entry n on, and a buffer of triangles; stores past the end are left out
 abbrev pub logWith : List ℕ → ℕ → List Entry → List ℕ
 logWith log n es = sets log (4 * n) (logNumbers es)
-
-abbrev pub triangleRecord : Triangle → List ℕ
-triangleRecord t = t .a ∷ t .b ∷ t .c ∷ []
 
 unfoldable pub triangleNumbers : List Triangle → List ℕ
 triangleNumbers ts = join triangleRecord ts
