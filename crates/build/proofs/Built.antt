@@ -133,9 +133,9 @@ module _ (s : List ℕ) (has : Counts) where
   plan-refused f object h = λ b e. build-refused s b f object h
 
   module _ (n : ℕ) (h : Accepted n ≡ checkedOf (scene s)) (c : Counted) where
-    -- with room for the most that the objects can come to
-    pub plan-surely : ((os : List Object) → scene s ≡ accepted os → countsFrom c ≡ mostCounts os) → (c′ : Counted) → Complete c′ ≡ roomFor has c → PlanHolds s has (Write n)
-    plan-surely k c′ q = (h, λ os e. longer (subst (LongEnough has) (k os e) (enough-room has c c′ q)) (most-enough minArea os))
+    -- with room for the most that the objects can come to, or for the nearer bound
+    pub plan-surely : (exact : Bool) → ((os : List Object) → scene s ≡ accepted os → countsFrom c ≡ mostCounts exact minArea os) → (c′ : Counted) → Complete c′ ≡ roomFor has c → PlanHolds s has (Write n)
+    plan-surely exact k c′ q = (h, λ os e. longer (subst (LongEnough has) (k os e) (enough-room has c c′ q)) (most-enough exact minArea os))
 
     module _ (k : (os : List Object) → scene s ≡ accepted os → countsFrom c ≡ countsOf (output minArea os)) where
       -- measured

@@ -1,4 +1,5 @@
-// Build: tests the room, by the most that the objects can come to or else measured, and then writes.
+// Build: tests the room, by the most that the objects can come to, by a nearer bound or else
+// measured, and then writes.
 ghost use mathlib.Core.Path.{_≡_};
 ghost use Rattle.scene.specs.declared.scenes.Checked.the-variants.{Accepted};
 ghost use Rattle.scene.specs.Scene.{scene};
@@ -22,13 +23,18 @@ pub enum Plan {
 }
 
 // The n objects of an accepted scene. Buffers with room for the most that these can come to need no
-// measuring: no refusal can follow.
+// measuring: no refusal can follow. Nor do buffers with room for the nearer bound, which takes
+// drawing but no cutting of lids.
 fn plan_objects(s: &[u8], n: u32, has: Lengths) -> Plan
     requires { ⌜ Accepted n ≡ checkedOf (scene (now s)) ⌝ }
     ensures { λ r. ⌜ PlanHolds (now (s .entry)) (lengthsFrom has) r ⌝ }
 {
-    let most = room(has, most_counts(s, n));
+    let most = room(has, most_counts(s, n, false));
     if let BuiltAnswer::Complete(_) = most {
+        return Plan::Write(n);
+    }
+    let nearer = room(has, most_counts(s, n, true));
+    if let BuiltAnswer::Complete(_) = nearer {
         return Plan::Write(n);
     }
     let measured = room(has, count_objects(s, n));

@@ -1,7 +1,8 @@
--- The most is what the objects come to where no triangle is thin, all holes are joined and all lids are wholly cut: computed for one of each kind. Assumes nothing.
+-- The most is what the objects come to where no triangle is thin, all holes are joined and all lids are wholly cut: computed for one of each kind. The
+-- nearer bound is what a sweep comes to in which a section stands twice. Assumes nothing.
 use Prim.Native.Nat.{ℕ}
 use mathlib.Core.Path.{_≡_, refl}
-use mathlib.Core.Bool.{Bool, true, _&&_}
+use mathlib.Core.Bool.{Bool, true, false, not, _&&_}
 use mathlib.Core.List.{List, [], _∷_, _++_}
 use lib.Dec.{eqb}
 use lib.IntN.{pos}
@@ -11,7 +12,7 @@ use Rattle.scene.specs.Scene.{scene}
 use Rattle.scene_mesh.specs.Operations.{Counts, countsOf, output}
 use Rattle.scene_mesh.specs.Samples.{Upright, upright, bytesOf, head, solidBytes, cornerBytes, outlineBytes, sceneBytes, objectsIn}
 use Rattle.scene_mesh.proofs.Computes.{all}
-use Rattle.most.specs.Most.{solidMost, outlineMost, sweepMost, mostOf, mostOfAll, mostCounts}
+use Rattle.most.specs.Most.{solidMost, outlineMost, sweepMost, mostOf, exactOf, hasLid, boundOf, mostOfAll, mostCounts}
 
 -- a square from (a, a) to (b, b)
 square : ℕ → ℕ → List Upright
@@ -21,25 +22,31 @@ square a b = upright a a 3 ∷ upright b a 3 ∷ upright b b 3 ∷ upright a b 3
 swept : ℕ → List ℕ
 swept kind = head kind 7 ++ bytesOf 2 2 ++ join cornerBytes (upright 0 2 1 ∷ upright 0 0 1 ∷ upright 4 2 1 ∷ upright 4 0 1 ∷ [])
 
+-- the same with its second section standing twice
+twice : List ℕ
+twice = head 5 7 ++ bytesOf 2 3 ++ join cornerBytes (upright 0 2 1 ∷ upright 0 0 1 ∷ upright 4 2 1 ∷ upright 4 0 1 ∷ upright 4 2 1 ∷ upright 4 0 1 ∷ [])
+
 same : Counts → Counts → Bool
 same a b =
     eqb (a .vertices) (b .vertices) && eqb (a .normals) (b .normals) && eqb (a .indices) (b .indices) && eqb (a .spans) (b .spans) && eqb (a .account) (b .account) && eqb (a .log) (b .log)
 
-exact-for : List ℕ → Bool
-exact-for bytes = let os = objectsIn (scene (sceneBytes (bytes ∷ []))) in same (mostCounts os) (countsOf (output minArea os))
+exact-for : Bool → List ℕ → Bool
+exact-for nearer bytes = let os = objectsIn (scene (sceneBytes (bytes ∷ []))) in same (mostCounts nearer minArea os) (countsOf (output minArea os))
 
 pub exact-tests : List Bool
 exact-tests =
-    exact-for (solidBytes 0 [])
-    ∷ exact-for (solidBytes 1 (pos 4 ∷ pos 2 ∷ pos 1 ∷ []))
-    ∷ exact-for (solidBytes 2 (pos 1 ∷ pos 2 ∷ []))
-    ∷ exact-for (outlineBytes 3 (square 0 9) [])
-    ∷ exact-for (outlineBytes 4 (square 0 9) (square 2 3 ∷ square 5 7 ∷ []))
-    ∷ exact-for (outlineBytes 4 [] [])
-    ∷ exact-for (swept 5)
-    ∷ exact-for (swept 6)
+    exact-for false (solidBytes 0 [])
+    ∷ exact-for false (solidBytes 1 (pos 4 ∷ pos 2 ∷ pos 1 ∷ []))
+    ∷ exact-for false (solidBytes 2 (pos 1 ∷ pos 2 ∷ []))
+    ∷ exact-for false (outlineBytes 3 (square 0 9) [])
+    ∷ exact-for false (outlineBytes 4 (square 0 9) (square 2 3 ∷ square 5 7 ∷ []))
+    ∷ exact-for false (outlineBytes 4 [] [])
+    ∷ exact-for false (swept 5)
+    ∷ exact-for false (swept 6)
+    ∷ not (exact-for false twice)
+    ∷ exact-for true twice
     ∷ []
 
 pub exact : every (λ b. b) exact-tests ≡ true
-unfolding all solidMost outlineMost sweepMost mostOf mostOfAll mostCounts square swept same exact-for exact-tests
+unfolding all solidMost outlineMost sweepMost mostOf exactOf hasLid boundOf mostOfAll mostCounts square swept twice same exact-for exact-tests
 exact = refl

@@ -1,16 +1,19 @@
--- The most that objects can come to, by the kinds and counts that their records' headers tell. proofs/Bounds shows that it is enough, and
--- proofs/Exact of crate computed computes that one object of each kind comes to just that. Definitions only.
+-- The most that objects can come to, by the kinds and counts that their records' headers tell, and a nearer bound. proofs/Bounds shows that both are
+-- enough, and proofs/Exact of crate computed computes that one object of each kind comes to just the most. Definitions only.
 use Prim.Native.Nat.{ℕ, _+_, _-_, _*_, _≤_}
-use mathlib.Core.Bool.{Bool, true, false, cond}
+use mathlib.Core.Bool.{Bool, true, false, not, _&&_, cond}
 use mathlib.Core.List.{List, [], _∷_}
 use lib.ListN.{length}
 use lib.Dec.{eqb}
-use lib.Ieee.{lt}
+use lib.Ieee.{Float, lt}
 use Rattle.lists.specs.Loops.{sumOf}
 use Rattle.float.specs.Number.{zerof}
 use Rattle.object.specs.declared.Extent.{Extent}
 use Rattle.object.specs.declared.Extent.the-variants.{Box, Cylinder, Unsized}
 use Rattle.object.specs.Object.{Shape, solid, outline, sweep, roundSweep, Object}
+use Rattle.face.specs.Faces.{writeFaces}
+use Rattle.shapes.specs.Shapes.{facesOf, logOf}
+use Rattle.scene_mesh.specs.Mesh.{keptBy}
 use Rattle.scene_mesh.specs.Operations.{Counts}
 use Rattle.most.specs.declared.Most.{Most}
 
@@ -40,6 +43,20 @@ mostOf (outline closed cs holes) = outlineMost closed (length cs) (sumOf length 
 mostOf (sweep ss) = sweepMost false (length ss)
 mostOf (roundSweep ss) = sweepMost true (length ss)
 
+-- what the shape comes to at a limit
+unfoldable pub exactOf : Float → Shape → Most
+exactOf limit sh = ofShape (length (writeFaces limit 0 (facesOf sh) .vertices)) (keptBy limit sh) (length (logOf sh))
+
+unfoldable pub hasLid : Shape → Bool
+hasLid (solid o t x) = false
+hasLid (outline closed cs holes) = closed
+hasLid (sweep ss) = false
+hasLid (roundSweep ss) = false
+
+-- The most, or the nearer bound: what the shape comes to, but the most where a lid would have to be cut for it.
+unfoldable pub boundOf : Bool → Float → Shape → Most
+boundOf exact limit sh = cond (exact && not (hasLid sh)) (exactOf limit sh) (mostOf sh)
+
 -- ---- of objects
 
 abbrev pub nothing : Most
@@ -49,17 +66,17 @@ abbrev pub together : Most → Most → Most
 together a b =
     record { vertices = a .vertices + b .vertices; triangles = a .triangles + b .triangles; spans = a .spans + b .spans; entries = a .entries + b .entries }
 
-unfoldable pub mostOfAll : List Object → Most
-mostOfAll [] = nothing
-mostOfAll (o ∷ os) = together (mostOf (o .shape)) (mostOfAll os)
+unfoldable pub mostOfAll : Bool → Float → List Object → Most
+mostOfAll exact limit [] = nothing
+mostOfAll exact limit (o ∷ os) = together (boundOf exact limit (o .shape)) (mostOfAll exact limit os)
 
 -- the numbers that n objects take in each buffer
 abbrev pub numbersOf : Most → ℕ → Counts
 numbersOf m n =
     record { vertices = 3 * m .vertices; normals = 3 * m .vertices; indices = 3 * m .triangles; spans = 5 * m .spans; account = 4 * n; log = 4 * m .entries }
 
-unfoldable pub mostCounts : List Object → Counts
-mostCounts os = numbersOf (mostOfAll os) (length os)
+unfoldable pub mostCounts : Bool → Float → List Object → Counts
+mostCounts exact limit os = numbersOf (mostOfAll exact limit os) (length os)
 
 -- ---- all of it fits the program's numbers
 

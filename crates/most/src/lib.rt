@@ -16,7 +16,7 @@ pub struct Most {
 }
 
 // So many of one shape.
-fn of_shape(vertices: u32, triangles: u32, entries: u32) -> Most
+pub fn of_shape(vertices: u32, triangles: u32, entries: u32) -> Most
     ensures { λ r. ⌜ r ≡ ofShape vertices triangles entries ⌝ }
 {
     if triangles == 0 {

@@ -1,20 +1,23 @@
 -- The loop over the records: its invariant at the start, after a record and at the end. Assumes nothing.
 use mathlib.Core.Path.{_≡_, sym, ap, _∙_, subst}
+use mathlib.Core.Bool.{Bool}
 use mathlib.Core.List.{List}
 use Prim.Native.Nat.{ℕ, _+_, _≤_, _<_, zero-le}
 use native.Mathlib.Nat.{zero-add, add-zero, add-assoc}
 use native.Mathlib.Omega.{arith}
 use lib.ListN.{length, getD, drop, drop-of-length-le}
+use Rattle.float.specs.Number.{minArea}
 use Rattle.object.specs.Object.{Object}
 use Rattle.scene.specs.declared.headers.Header.{Header}
 use Rattle.scene.specs.declared.scenes.Checked.the-variants.{Accepted}
 use Rattle.scene.specs.Scene.{Scene, accepted, scene, trailer}
 use Rattle.scene.specs.Answers.{checkedOf, objectsOf}
-use Rattle.scene.specs.Headers.{bodyAt, headerAt, shapeOf, Limits}
-use Rattle.scene.proofs.Walk.{Walking, walk-object, walk-next, walk-limits, walk-body, walk-inside, AcceptedAs, checked-accepted, trailer-inside}
+use Rattle.scene.specs.Headers.{bodyAt, headerAt, shapeOf}
+use Rattle.scene.proofs.Walk.{Walking, walk-object, walk-next, walk-limits, walk-inside, AcceptedAs, checked-accepted, trailer-inside}
+use Rattle.shapes.specs.Drawn.{CanDraw}
 use Rattle.most.specs.declared.Most.{Most}
-use Rattle.most.specs.Most.{mostOf, nothing, together, mostOfAll, Few}
-use Rattle.scene_most.proofs.Headers.{few-body}
+use Rattle.most.specs.Most.{boundOf, nothing, together, mostOfAll, Few}
+use Rattle.scene_most.proofs.Headers.{few-bound}
 
 together-none : (m : Most) → together m nothing ≡ m
 together-none m = λ i. record { vertices = add-zero (m .vertices) i; triangles = add-zero (m .triangles) i; spans = add-zero (m .spans) i; entries = add-zero (m .entries) i }
@@ -34,16 +37,16 @@ pub objects-count : (s : List ℕ) (n : ℕ) → Accepted n ≡ checkedOf (scene
 objects-count s n h os e = sym (checked-accepted s n h .size) ∙ ap (λ (t : Scene). length (objectsOf t)) e
 
 -- k records lie before place `at`, and come to m at the most
-pub record Sums (s : List ℕ) (n : ℕ) (m : Most) (at k : ℕ) : Type 0 where
+pub record Sums (exact : Bool) (s : List ℕ) (n : ℕ) (m : Most) (at k : ℕ) : Type 0 where
   pub known : AcceptedAs s n (objectsOf (scene s))
   pub walking : Walking s (trailer s n) n (objectsOf (scene s)) k at
   pub count : k ≤ n
   pub place : at ≤ trailer s n
   pub few : Few m at k
-  pub same : together m (mostOfAll (drop k (objectsOf (scene s)))) ≡ mostOfAll (objectsOf (scene s))
+  pub same : together m (mostOfAll exact minArea (drop k (objectsOf (scene s)))) ≡ mostOfAll exact minArea (objectsOf (scene s))
 
-pub sums-start : (s : List ℕ) (n : ℕ) → Accepted n ≡ checkedOf (scene s) → Sums s n nothing 0 0
-sums-start s n h =
+pub sums-start : (exact : Bool) (s : List ℕ) (n : ℕ) → Accepted n ≡ checkedOf (scene s) → Sums exact s n nothing 0 0
+sums-start exact s n h =
     let q = checked-accepted s n h in
     record {
       known = q;
@@ -51,24 +54,31 @@ sums-start s n h =
       count = zero-le;
       place = zero-le;
       few = record { vertices = zero-le; triangles = zero-le; spans = zero-le; entries = zero-le };
-      same = none-together (mostOfAll (objectsOf (scene s)));
+      same = none-together (mostOfAll exact minArea (objectsOf (scene s)));
     }
 
-module _ {s : List ℕ} {n : ℕ} {m : Most} {at k : ℕ} (w : Sums s n m at k) where
+module _ {exact : Bool} {s : List ℕ} {n : ℕ} {m : Most} {at k : ℕ} (w : Sums exact s n m at k) where
   abbrev os : List Object
   os = objectsOf (scene s)
 
-  module _ (l : k < n) where
-    limits-next : Limits s (at + 5) (headerAt s at .body) × (at + 5 ≤ 16777216)
-    limits-next = let short = w .known .short in (walk-limits (w .walking) l, omega (arith, walk-body (w .walking) l, trailer-inside s n))
+  abbrev bound : Header → Most
+  bound h = boundOf exact minArea (shapeOf s (at + 5) (h .body))
 
-    few-next : Few (mostOf (shapeOf s (at + 5) (headerAt s at .body))) (headerAt s at .size) 1
+  abbrev sum : List Object → Most
+  sum = mostOfAll exact minArea
+
+  module _ (l : k < n) where
+    can-draw : CanDraw s (at + 5) (headerAt s at .body) 0
     unfolding headerAt
-    few-next = few-body s (at + 5) (bodyAt s (at + 5) (getD s at 0))
+    can-draw = record { limits = walk-limits (w .walking) l; inside = omega (arith, walk-inside (w .walking) l, trailer-inside s n); short = w .known .short; few = zero-le }
+
+    few-next : Few (bound (headerAt s at)) (headerAt s at .size) 1
+    unfolding headerAt
+    few-next = few-bound exact s (at + 5) (bodyAt s (at + 5) (getD s at 0))
 
     module _ {h : Header} (e : h ≡ headerAt s at) where
-      pub can-read : Limits s (at + 5) (h .body) × (at + 5 ≤ 16777216)
-      can-read = subst (λ (x : Header). Limits s (at + 5) (x .body) × (at + 5 ≤ 16777216)) (sym e) limits-next
+      pub can-read : CanDraw s (at + 5) (h .body) 0
+      can-read = subst (λ (x : Header). CanDraw s (at + 5) (x .body) 0) (sym e) can-draw
 
       inside : at + h .size ≤ trailer s n
       inside = subst (λ (x : Header). at + x .size ≤ trailer s n) (sym e) (walk-inside (w .walking) l)
@@ -76,10 +86,10 @@ module _ {s : List ℕ} {n : ℕ} {m : Most} {at k : ℕ} (w : Sums s n m at k) 
       pub place-fits : at + h .size ≤ 16777216
       place-fits = let short = w .known .short in let i = inside in omega (arith, trailer-inside s n)
 
-      module _ {x : Most} (q : x ≡ mostOf (shapeOf s (at + 5) (h .body))) where
+      module _ {x : Most} (q : x ≡ bound h) where
         few-more : Few (together m x) (at + h .size) (k + 1)
         few-more =
-            let f : Few x (h .size) 1 = subst (λ (y : Most). Few y (h .size) 1) (sym q) (subst (λ (y : Header). Few (mostOf (shapeOf s (at + 5) (y .body))) (y .size) 1) (sym e) few-next) in
+            let f : Few x (h .size) 1 = subst (λ (y : Most). Few y (h .size) 1) (sym q) (subst (λ (y : Header). Few (bound y) (y .size) 1) (sym e) few-next) in
             let fv = f .vertices in
             let ft = f .triangles in
             let fs = f .spans in
@@ -101,12 +111,12 @@ module _ {s : List ℕ} {n : ℕ} {m : Most} {at k : ℕ} (w : Sums s n m at k) 
             let few = w .known .few in
             record { vertices = omega arith; triangles = omega arith; spans = omega arith; entries = omega arith }
 
-        pub sums-next : {m′ : Most} → m′ ≡ together m x → Sums s n m′ (at + h .size) (k + 1)
+        pub sums-next : {m′ : Most} → m′ ≡ together m x → Sums exact s n m′ (at + h .size) (k + 1)
         unfolding mostOfAll
         sums-next d =
-            let y = mostOf (shapeOf s (at + 5) (headerAt s at .body)) in
-            let is : x ≡ y = q ∙ ap (λ (z : Header). mostOf (shapeOf s (at + 5) (z .body))) e in
-            let rest = mostOfAll (drop (k + 1) os) in
+            let y = bound (headerAt s at) in
+            let is : x ≡ y = q ∙ ap bound e in
+            let rest = sum (drop (k + 1) os) in
             record {
               known = w .known;
               walking = subst (λ (z : Header). Walking s (trailer s n) n os (k + 1) (at + z .size)) (sym e) (walk-next (w .walking) l);
@@ -117,11 +127,11 @@ module _ {s : List ℕ} {n : ℕ} {m : Most} {at k : ℕ} (w : Sums s n m at k) 
                   ap (λ (z : Most). together z rest) d
                   ∙ ap (λ (z : Most). together (together m z) rest) is
                   ∙ together-more m y rest
-                  ∙ ap (λ (r : List Object). together m (mostOfAll r)) (sym (walk-object (w .walking) l))
+                  ∙ ap (λ (r : List Object). together m (sum r)) (sym (walk-object (w .walking) l))
                   ∙ w .same;
             }
 
-  pub sums-end : n ≤ k → Few m 16777216 65536 × ((os′ : List Object) → scene s ≡ accepted os′ → m ≡ mostOfAll os′)
+  pub sums-end : n ≤ k → Few m 16777216 65536 × ((os′ : List Object) → scene s ≡ accepted os′ → m ≡ sum os′)
   unfolding mostOfAll
   sums-end h =
       let size = w .known .size in
@@ -136,5 +146,5 @@ module _ {s : List ℕ} {n : ℕ} {m : Most} {at k : ℕ} (w : Sums s n m at k) 
       let inside = trailer-inside s n in
       let all : length os ≤ k = omega arith in (
         record { vertices = omega arith; triangles = omega arith; spans = omega arith; entries = omega arith },
-        λ os′ e. sym (together-none m) ∙ ap (λ (r : List Object). together m (mostOfAll r)) (sym (drop-of-length-le os all)) ∙ w .same ∙ ap (λ (t : Scene). mostOfAll (objectsOf t)) e,
+        λ os′ e. sym (together-none m) ∙ ap (λ (r : List Object). together m (sum r)) (sym (drop-of-length-le os all)) ∙ w .same ∙ ap (λ (t : Scene). sum (objectsOf t)) e,
       )

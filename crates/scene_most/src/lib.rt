@@ -1,25 +1,30 @@
 // The most that the objects of an accepted scene can come to, told by the headers of their records
-// alone: buffers with room for it need no measuring.
+// alone, and a nearer bound, in which only closed outlines count as their most and all else is
+// measured. Buffers with room for either need no measuring of the lids.
 ghost use mathlib.Core.Path.{_≡_};
 ghost use mathlib.Core.List.{List};
-ghost use Prim.Native.Nat.{_≤_};
+ghost use Prim.Native.Nat.{ℕ, _≤_};
+ghost use Rattle.float.specs.Number.{minArea};
 ghost use Rattle.object.specs.Object.{Object};
 ghost use Rattle.scene.specs.declared.scenes.Checked.the-variants.{Accepted};
 ghost use Rattle.scene.specs.Scene.{scene, accepted};
 ghost use Rattle.scene.specs.Answers.{checkedOf};
 ghost use Rattle.scene.specs.Headers.{shapeOf, Limits};
+ghost use Rattle.shapes.specs.Drawn.{CanDraw};
 ghost use Rattle.answers.specs.Answers.{countsFrom};
-ghost use Rattle.most.specs.Most.{mostOf, together, mostOfAll, mostCounts, Few};
+ghost use Rattle.most.specs.Most.{mostOf, exactOf, hasLid, boundOf, together, mostOfAll, mostCounts, Few};
 use answers::Counted;
+use answers::min_area;
 use headers::header_at;
 use most::Most;
+use most::of_shape;
 use most::outline_most;
 use most::solid_most;
 use most::sweep_most;
 use records::sum_counts;
 use scene::headers::Body;
 
-// The object whose record's body is at i.
+// The most of the object whose record's body is at i.
 fn most_at(s: &[u8], i: usize, body: Body) -> Most
     requires { ⌜ Limits (now s) i body × (i ≤ 16777216) ⌝ }
     ensures { λ r. ⌜ r ≡ mostOf (shapeOf (now (s .entry)) i body) ⌝ }
@@ -38,6 +43,51 @@ fn most_at(s: &[u8], i: usize, body: Body) -> Most
     }
 }
 
+// What it comes to: drawn into buffers without any room.
+fn exact_at(s: &[u8], i: usize, body: Body) -> Most
+    requires { ⌜ CanDraw (now s) i body 0 ⌝ }
+    ensures { λ r. ⌜ r ≡ exactOf minArea (shapeOf (now (s .entry)) i body) ⌝ }
+{
+    let mut vs = [0.0f32; 0];
+    let mut ns = [0.0f32; 0];
+    let mut is = [0u32; 0];
+    let mut log = [0u32; 0];
+    let d = draw::draw(
+        s,
+        i,
+        body,
+        min_area(),
+        0,
+        &mut vs,
+        &mut ns,
+        &mut is,
+        &mut log,
+    );
+    let t = d.tally;
+    of_shape(t.vertices, t.kept, d.entries)
+}
+
+fn has_lid(body: Body) -> bool
+    ensures { λ r. ⌜ ((s : List ℕ) (i : ℕ) → r ≡ hasLid (shapeOf s i body)) ⌝ }
+{
+    match body {
+        Body::Solid(_) => false,
+        Body::Outline { closed, .. } => closed,
+        Body::Sweep { .. } => false,
+    }
+}
+
+// Its most, or what it comes to where that is wanted and no lid must be cut for it.
+fn bound_at(s: &[u8], i: usize, body: Body, exact: bool) -> Most
+    requires { ⌜ CanDraw (now s) i body 0 ⌝ }
+    ensures { λ r. ⌜ r ≡ boundOf exact minArea (shapeOf (now (s .entry)) i body) ⌝ }
+{
+    if exact & !has_lid(body) {
+        return exact_at(s, i, body);
+    }
+    most_at(s, i, body)
+}
+
 fn add(a: Most, b: Most) -> Most
     requires { ⌜ Few (together a b) 16777216 65536 ⌝ }
     ensures { λ r. ⌜ r ≡ together a b ⌝ }
@@ -51,9 +101,9 @@ fn add(a: Most, b: Most) -> Most
 }
 
 // All n objects.
-fn most_of_all(s: &[u8], n: u32) -> Most
+fn most_of_all(s: &[u8], n: u32, exact: bool) -> Most
     requires { ⌜ Accepted n ≡ checkedOf (scene (now s)) ⌝ }
-    ensures { λ r. ⌜ Few r 16777216 65536 × ((os : List Object) → scene (now (s .entry)) ≡ accepted os → r ≡ mostOfAll os) ⌝ }
+    ensures { λ r. ⌜ Few r 16777216 65536 × ((os : List Object) → scene (now (s .entry)) ≡ accepted os → r ≡ mostOfAll exact minArea os) ⌝ }
 {
     let mut most = Most {
         vertices: 0,
@@ -66,19 +116,19 @@ fn most_of_all(s: &[u8], n: u32) -> Most
     while k < n {
         let h = header_at(s, at);
         let body = h.body;
-        most = add(most, most_at(s, at + 5, body));
+        most = add(most, bound_at(s, at + 5, body, exact));
         at = at + h.size;
         k = k + 1;
     }
     most
 }
 
-// The most numbers that each buffer can get.
-pub fn most_counts(s: &[u8], n: u32) -> Counted
+// The most numbers that each buffer can get; `exact` asks for the nearer bound.
+pub fn most_counts(s: &[u8], n: u32, exact: bool) -> Counted
     requires { ⌜ Accepted n ≡ checkedOf (scene (now s)) ⌝ }
-    ensures { λ r. ⌜ ((os : List Object) → scene (now (s .entry)) ≡ accepted os → countsFrom r ≡ mostCounts os) ⌝ }
+    ensures { λ r. ⌜ ((os : List Object) → scene (now (s .entry)) ≡ accepted os → countsFrom r ≡ mostCounts exact minArea os) ⌝ }
 {
-    let m = most_of_all(s, n);
+    let m = most_of_all(s, n, exact);
     Counted {
         vertices: 3 * m.vertices,
         normals: 3 * m.vertices,

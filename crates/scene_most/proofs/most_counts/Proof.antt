@@ -8,8 +8,8 @@ use Rattle.scene_most.proofs.Sums.{objects-count}
 use Rattle.scene_most.proofs.most_counts.Statement.{statement}
 use Rattle.scene_most.proofs.most_counts.Tie as tie
 
-mul-t8 : tie.Need-mul-t8
-mul-t8 c = omega (arith, checked-accepted _ _ (c .before .before .before .before .before .before .pre) .few)
+mul-t9 : tie.Need-mul-t9
+mul-t9 c = omega (arith, checked-accepted _ _ (c .before .before .before .before .before .before .pre) .few)
 
 returns : tie.Need-returns
 unfolding mostCounts
@@ -18,4 +18,4 @@ returns c = λ os e. ap₂ numbersOf (c .before .before .before .before .before 
 pub most-counts-spec : {M : Type 1} → statement M
 most-counts-spec =
     tie.close
-    (tie.spec (λ c κs. search needs) (λ c. search needs) (λ c. search needs) (λ c. search needs) (λ c. search needs) mul-t8 (λ c. search needs) returns)
+    (tie.spec (λ c κs. search needs) (λ c. search needs) (λ c. search needs) (λ c. search needs) (λ c. search needs) mul-t9 (λ c. search needs) returns)

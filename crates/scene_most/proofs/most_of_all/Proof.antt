@@ -7,28 +7,28 @@ use Rattle.scene_most.proofs.most_of_all.Statement.{statement}
 use Rattle.scene_most.proofs.most_of_all.Tie as tie
 
 abbrev Inv-loop : tie.InvT-loop
-Inv-loop s n most₀ at₀ k₀ most at k = Sums s n most at k
+Inv-loop s n exact most₀ at₀ k₀ most at k = Sums exact s n most at k
 
 abbrev μ-loop : tie.MeasureT-loop
-μ-loop s n most₀ at₀ k₀ most at k = n - k
+μ-loop s n exact most₀ at₀ k₀ most at k = n - k
 
 loop-holds : tie.Need-loop-holds Inv-loop μ-loop
-loop-holds c = sums-start _ _ (c .before .pre)
+loop-holds c = sums-start _ _ _ (c .before .pre)
 
-add-most-at : tie.Need-add-most-at Inv-loop μ-loop
-add-most-at c = omega (arith, can-read (c .before .before .loop .inv) (c .before .loop-test .taken) (c .header-at .ensures) .1)
+add-bound-at : tie.Need-add-bound-at Inv-loop μ-loop
+add-bound-at c = let q = can-read (c .before .before .loop .inv) (c .before .loop-test .taken) (c .header-at .ensures) in omega (arith, q .inside, q .short)
 
-most-at-requires : tie.Need-most-at-requires Inv-loop μ-loop
-most-at-requires c κs = can-read (c .before .before .loop .inv) (c .before .loop-test .taken) (c .header-at .ensures)
+bound-at-requires : tie.Need-bound-at-requires Inv-loop μ-loop
+bound-at-requires c κs = can-read (c .before .before .loop .inv) (c .before .loop-test .taken) (c .header-at .ensures)
 
 add-requires : tie.Need-add-requires Inv-loop μ-loop
-add-requires c κs = can-sum (c .before .before .before .loop .inv) (c .before .before .loop-test .taken) (c .before .header-at .ensures) (c .most-at .ensures)
+add-requires c κs = can-sum (c .before .before .before .loop .inv) (c .before .before .loop-test .taken) (c .before .header-at .ensures) (c .bound-at .ensures)
 
 add-at : tie.Need-add-at Inv-loop μ-loop
 add-at c = omega (arith, place-fits (c .before .before .before .before .before .loop .inv) (c .before .before .before .before .loop-test .taken) (c .before .before .before .header-at .ensures))
 
 loop-again : tie.Need-loop-again Inv-loop μ-loop
-loop-again c = sums-next (c .before .before .before .before .before .loop .inv) (c .before .before .before .before .loop-test .taken) (c .before .before .before .header-at .ensures) (c .before .before .most-at .ensures) (c .before .add .ensures)
+loop-again c = sums-next (c .before .before .before .before .before .loop .inv) (c .before .before .before .before .loop-test .taken) (c .before .before .before .header-at .ensures) (c .before .before .bound-at .ensures) (c .before .add .ensures)
 
 returns : tie.Need-returns Inv-loop μ-loop
 returns c = sums-end (c .before .loop .inv) (c .loop-test .left)
@@ -36,5 +36,5 @@ returns c = sums-end (c .before .loop .inv) (c .loop-test .left)
 pub most-of-all-spec : {M : Type 1} → statement M
 most-of-all-spec =
     tie.close
-    (tie.spec Inv-loop μ-loop loop-holds (λ c κs. search needs) add-most-at most-at-requires add-requires add-at (λ c. omega arith) (λ c. omega arith)
+    (tie.spec Inv-loop μ-loop loop-holds (λ c κs. search needs) add-bound-at bound-at-requires add-requires add-at (λ c. omega arith) (λ c. omega arith)
     loop-again returns)
