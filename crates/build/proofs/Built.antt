@@ -26,10 +26,12 @@ use Rattle.progress.specs.Wrote.{stored, WroteAll}
 use Rattle.progress.proofs.Pass.Tails.{sets-over}
 use Rattle.scene_mesh.specs.Demand3.{LongEnough}
 use Rattle.scene_mesh.proofs.Demand3.{long-enough}
-use Rattle.most.specs.Most.{mostCounts}
+use Rattle.most.specs.declared.Most.{Most}
+use Rattle.most.specs.Most.{numbersOf, together, partOfAll, mostCounts}
 use Rattle.most.proofs.Bounds.{most-enough}
+use Rattle.scene_most.proofs.Sums.{objects-count}
 use Rattle.build.specs.declared.Plan.the-variants.{Refuse, Write}
-use Rattle.build.specs.Plan.{PlanHolds}
+use Rattle.build.specs.Plan.{Fits, PlanHolds}
 
 -- by the outcomes of the three tests
 abbrev answerBy : Counted → Bool → Bool → Bool → BuiltAnswer
@@ -45,7 +47,7 @@ isComplete ShortIndices = false
 isComplete ShortRecords = false
 isComplete (Complete c) = true
 
-no : true ≡ false → ⊥
+pub no : true ≡ false → ⊥
 no q = let z : _≡_ {A = ℕ} 0 1 = cc in omega arith
 
 -- refused: the buffers stay as they were
@@ -80,7 +82,7 @@ stored-over w b p q r s t u = λ i. record {
 }
 
 -- each buffer has room for what was found to fit
-enough-room : (has : Counts) (c c′ : Counted) → Complete c′ ≡ roomFor has c → LongEnough has (countsFrom c)
+pub enough-room : (has : Counts) (c c′ : Counted) → Complete c′ ≡ roomFor has c → LongEnough has (countsFrom c)
 unfolding roomFor
 enough-room has c c′ q =
     let f = enough c c′ (noVertices has c) (noIndices has c) (noRecords has c) (sym q) in
@@ -132,13 +134,16 @@ module _ (s : List ℕ) (has : Counts) where
   pub plan-refused : (f : Refusal) (object : ℕ) → CheckedRefused f object ≡ checkedOf (scene s) → PlanHolds s has (Refuse (Refused f object))
   plan-refused f object h = λ b e. build-refused s b f object h
 
-  module _ (n : ℕ) (h : Accepted n ≡ checkedOf (scene s)) (c : Counted) where
-    -- with room for the most that the objects can come to, or for the nearer bound
-    pub plan-surely : (exact : Bool) → ((os : List Object) → scene s ≡ accepted os → countsFrom c ≡ mostCounts exact minArea os) → (c′ : Counted) → Complete c′ ≡ roomFor has c → PlanHolds s has (Write n)
-    plan-surely exact k c′ q = (h, λ os e. longer (subst (LongEnough has) (k os e) (enough-room has c c′ q)) (most-enough exact minArea os))
+  module _ (n : ℕ) (h : Accepted n ≡ checkedOf (scene s)) where
+    -- with room for both parts, each measured or not
+    pub fits-parts : (others lids : Bool) (a b : Most) → ((os : List Object) → scene s ≡ accepted os → a ≡ partOfAll false others minArea os) → ((os : List Object) → scene s ≡ accepted os → b ≡ partOfAll true lids minArea os)
+        → LongEnough has (numbersOf (together a b) n) → Fits s has
+    unfolding mostCounts
+    fits-parts others lids a b p q l =
+        λ os e. longer (subst (LongEnough has) (λ i. numbersOf (together (p os e i) (q os e i)) (objects-count s n h os e i)) l) (most-enough others lids minArea os)
 
-    module _ (k : (os : List Object) → scene s ≡ accepted os → countsFrom c ≡ countsOf (output minArea os)) where
-      -- measured
+    -- measured
+    module _ (c : Counted) (k : (os : List Object) → scene s ≡ accepted os → countsFrom c ≡ countsOf (output minArea os)) where
       pub plan-measured : (c′ : Counted) → Complete c′ ≡ roomFor has c → PlanHolds s has (Write n)
       plan-measured c′ q = (h, λ os e. subst (LongEnough has) (k os e) (enough-room has c c′ q))
 

@@ -13,7 +13,11 @@ use Rattle.answers.specs.Answers.{builtWith}
 use Rattle.build.specs.declared.Plan.{Plan}
 use Rattle.build.specs.declared.Plan.the-variants.{Refuse, Write}
 
--- a refusal is Build's answer to buffers of these lengths; n objects are written only where each buffer has room for what they come to
+-- each buffer has room for what the objects come to
+abbrev pub Fits : List ℕ → Counts → Type 0
+Fits s has = (os : List Object) → scene s ≡ accepted os → LongEnough has (countsOf (output minArea os))
+
+-- a refusal is Build's answer to buffers of these lengths; n objects are written only where they fit
 abbrev pub PlanHolds : List ℕ → Counts → Plan → Type 0
 PlanHolds s has (Refuse a) = (b : Buffers) → countsOf b ≡ has → builtWith a b ≡ build s b
-PlanHolds s has (Write n) = (Accepted n ≡ checkedOf (scene s)) × ((os : List Object) → scene s ≡ accepted os → LongEnough has (countsOf (output minArea os)))
+PlanHolds s has (Write n) = (Accepted n ≡ checkedOf (scene s)) × Fits s has

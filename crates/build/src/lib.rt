@@ -1,20 +1,26 @@
-// Build: tests the room, by the most that the objects can come to, by a nearer bound or else
-// measured, and then writes.
+// Build: tests the room, by the most that the objects can come to or else measured, and then
+// writes.
 ghost use mathlib.Core.Path.{_≡_};
+ghost use mathlib.Core.Bool.{true};
+ghost use Prim.Native.Nat.{_≤_};
 ghost use Rattle.scene.specs.declared.scenes.Checked.the-variants.{Accepted};
 ghost use Rattle.scene.specs.Scene.{scene};
 ghost use Rattle.scene.specs.Answers.{checkedOf};
 ghost use Rattle.scene_mesh.specs.Operations.{lent, build};
+ghost use Rattle.scene_mesh.specs.Demand3.{LongEnough};
 ghost use Rattle.answers.specs.Answers.{lengthsFrom, builtWith};
-ghost use Rattle.build.specs.Plan.{PlanHolds};
+ghost use Rattle.most.specs.Most.{numbersOf, together, Few};
+ghost use Rattle.build.specs.Plan.{Fits, PlanHolds};
 use answers::BuiltAnswer;
 use answers::Lengths;
 use answers::min_area;
 use answers::room;
+use most::Most;
 use pass::count_objects;
 use pass::write_objects;
 use scene::scenes::Checked;
-use scene_most::most_counts;
+use scene_most::bound_counts;
+use scene_most::part_of_all;
 
 // What is to be done before a buffer is touched: refuse, or write so many objects.
 pub enum Plan {
@@ -22,19 +28,44 @@ pub enum Plan {
     Write(u32),
 }
 
-// The n objects of an accepted scene. Buffers with room for the most that these can come to need no
-// measuring: no refusal can follow. Nor do buffers with room for the nearer bound, which takes
-// drawing but no cutting of lids.
+// Whether buffers of these lengths have room for what both parts come to.
+fn parts_fit(has: Lengths, others: Most, lids: Most, n: u32) -> bool
+    requires { ⌜ Few others 16777216 65536 × Few lids 16777216 65536 × (n ≤ 65536) ⌝ }
+    ensures { λ r. ⌜ (r ≡ true → LongEnough (lengthsFrom has) (numbersOf (together others lids) n)) ⌝ }
+{
+    let answer = room(has, bound_counts(others, lids, n));
+    if let BuiltAnswer::Complete(_) = answer {
+        return true;
+    }
+    false
+}
+
+// Whether the n objects of an accepted scene surely fit: by the most that they can come to, then
+// with those without lids measured, which takes drawing but no cutting, then with all measured.
+// No object is drawn twice for it.
+fn surely_fit(s: &[u8], n: u32, has: Lengths) -> bool
+    requires { ⌜ Accepted n ≡ checkedOf (scene (now s)) ⌝ }
+    ensures { λ r. ⌜ (r ≡ true → Fits (now (s .entry)) (lengthsFrom has)) ⌝ }
+{
+    let lids = part_of_all(s, n, true, false);
+    let most = part_of_all(s, n, false, false);
+    if parts_fit(has, most, lids, n) {
+        return true;
+    }
+    let others = part_of_all(s, n, false, true);
+    if parts_fit(has, others, lids, n) {
+        return true;
+    }
+    parts_fit(has, others, part_of_all(s, n, true, true), n)
+}
+
+// The n objects of an accepted scene. The last sums of `surely_fit` are exact, so that the count
+// is only reached where Build refuses, and only the refusal is left to be told.
 fn plan_objects(s: &[u8], n: u32, has: Lengths) -> Plan
     requires { ⌜ Accepted n ≡ checkedOf (scene (now s)) ⌝ }
     ensures { λ r. ⌜ PlanHolds (now (s .entry)) (lengthsFrom has) r ⌝ }
 {
-    let most = room(has, most_counts(s, n, false));
-    if let BuiltAnswer::Complete(_) = most {
-        return Plan::Write(n);
-    }
-    let nearer = room(has, most_counts(s, n, true));
-    if let BuiltAnswer::Complete(_) = nearer {
+    if surely_fit(s, n, has) {
         return Plan::Write(n);
     }
     let measured = room(has, count_objects(s, n));

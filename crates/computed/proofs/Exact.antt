@@ -1,5 +1,5 @@
--- The most is what the objects come to where no triangle is thin, all holes are joined and all lids are wholly cut: computed for one of each kind. The
--- nearer bound is what a sweep comes to in which a section stands twice. Assumes nothing.
+-- The most is what the objects come to where no triangle is thin, all holes are joined and all lids are wholly cut: computed for one of each kind. For a
+-- sweep in which a section stands twice it is too much, and the bound with the objects without lids measured is exact. Assumes nothing.
 use Prim.Native.Nat.{ℕ}
 use mathlib.Core.Path.{_≡_, refl}
 use mathlib.Core.Bool.{Bool, true, false, not, _&&_}
@@ -12,7 +12,7 @@ use Rattle.scene.specs.Scene.{scene}
 use Rattle.scene_mesh.specs.Operations.{Counts, countsOf, output}
 use Rattle.scene_mesh.specs.Samples.{Upright, upright, bytesOf, head, solidBytes, cornerBytes, outlineBytes, sceneBytes, objectsIn}
 use Rattle.scene_mesh.proofs.Computes.{all}
-use Rattle.most.specs.Most.{solidMost, outlineMost, sweepMost, mostOf, exactOf, hasLid, boundOf, mostOfAll, mostCounts}
+use Rattle.most.specs.Most.{solidMost, outlineMost, sweepMost, mostOf, exactOf, hasLid, inPart, partOf, partOfAll, mostCounts}
 
 -- a square from (a, a) to (b, b)
 square : ℕ → ℕ → List Upright
@@ -31,7 +31,7 @@ same a b =
     eqb (a .vertices) (b .vertices) && eqb (a .normals) (b .normals) && eqb (a .indices) (b .indices) && eqb (a .spans) (b .spans) && eqb (a .account) (b .account) && eqb (a .log) (b .log)
 
 exact-for : Bool → List ℕ → Bool
-exact-for nearer bytes = let os = objectsIn (scene (sceneBytes (bytes ∷ []))) in same (mostCounts nearer minArea os) (countsOf (output minArea os))
+exact-for nearer bytes = let os = objectsIn (scene (sceneBytes (bytes ∷ []))) in same (mostCounts nearer false minArea os) (countsOf (output minArea os))
 
 pub exact-tests : List Bool
 exact-tests =
@@ -48,5 +48,5 @@ exact-tests =
     ∷ []
 
 pub exact : every (λ b. b) exact-tests ≡ true
-unfolding all solidMost outlineMost sweepMost mostOf exactOf hasLid boundOf mostOfAll mostCounts square swept twice same exact-for exact-tests
+unfolding all solidMost outlineMost sweepMost mostOf exactOf hasLid inPart partOf partOfAll mostCounts square swept twice same exact-for exact-tests
 exact = refl

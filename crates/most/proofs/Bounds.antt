@@ -1,9 +1,9 @@
--- What a list of objects comes to is at most what `mostCounts` says, at every limit. Assumes nothing.
-use mathlib.Core.Path.{_≡_, refl}
-use mathlib.Core.Bool.{Bool, true, false, not, _&&_, cond}
+-- What a list of objects comes to is at most what `mostCounts` says, whatever is measured, at every limit. Assumes nothing.
+use mathlib.Core.Path.{_≡_, refl, sym, subst}
+use mathlib.Core.Bool.{Bool, true, false, not, cond}
 use mathlib.Core.List.{List, [], _∷_, map}
 use Prim.Native.Nat.{ℕ, zero, suc, _+_, _*_, _≤_, zero-le}
-use native.Mathlib.Nat.{le-refl, le-trans}
+use native.Mathlib.Nat.{le-refl, le-trans, zero-add, add-zero}
 use native.Mathlib.Omega.{arith}
 use lib.Dec.{eqb}
 use lib.ListN.{length, length-append, length-map}
@@ -30,7 +30,13 @@ use Rattle.scene_mesh.specs.Operations.{output, countsOf}
 use Rattle.scene_mesh.proofs.Demand3.Spans.{piece-size}
 use Rattle.scene_mesh.proofs.MeshSizes.{mesh-indices, mesh-normals}
 use Rattle.most.specs.declared.Most.{Most}
-use Rattle.most.specs.Most.{ofShape, solidMost, outlineMost, sweepMost, mostOf, exactOf, hasLid, boundOf, mostOfAll, mostCounts}
+use Rattle.most.specs.Most.{ofShape, solidMost, outlineMost, sweepMost, mostOf, exactOf, hasLid, nothing as none, together, inPart, partOf, partOfAll, mostCounts}
+
+pub together-none : (m : Most) → together m none ≡ m
+together-none m = λ i. record { vertices = add-zero (m .vertices) i; triangles = add-zero (m .triangles) i; spans = add-zero (m .spans) i; entries = add-zero (m .entries) i }
+
+pub none-together : (m : Most) → together none m ≡ m
+none-together m = λ i. record { vertices = zero-add (m .vertices) i; triangles = zero-add (m .triangles) i; spans = zero-add (m .spans) i; entries = zero-add (m .entries) i }
 
 -- ---- one shape
 
@@ -86,9 +92,17 @@ module _ (limit : Float) where
   unfolding exactOf
   exact-within sh = record { vertices = λ first. omega (arith, alike first 0 (facesOf sh)); triangles = le-refl _; entries = le-refl _; spans = refl }
 
-  bound-within : (exact : Bool) (sh : Shape) → Within sh (boundOf exact limit sh)
-  unfolding boundOf
-  bound-within exact sh = either (Within sh) (exact && not (hasLid sh)) (exact-within sh) (most-within sh)
+  bound-within : (exact : Bool) (sh : Shape) → Within sh (cond exact (exactOf limit sh) (mostOf sh))
+  bound-within exact sh = either (Within sh) exact (exact-within sh) (most-within sh)
+
+  -- one of the two parts has the shape
+  one-part : (sh : Shape) (lid : Bool) (x y : Most) → Within sh x → Within sh y → Within sh (together (cond (not lid) x none) (cond lid y none))
+  one-part sh true x y p q = subst (Within sh) (sym (none-together y)) q
+  one-part sh false x y p q = subst (Within sh) (sym (together-none x)) p
+
+  parts-within : (others lids : Bool) (sh : Shape) → Within sh (together (partOf false others limit sh) (partOf true lids limit sh))
+  unfolding partOf inPart
+  parts-within others lids sh = one-part sh (hasLid sh) _ _ (bound-within others sh) (bound-within lids sh)
 
 -- ---- all objects
 
@@ -97,26 +111,29 @@ one-or-none zero t x h = zero-le
 one-or-none (suc n) zero x h = omega arith
 one-or-none (suc n) (suc t) x h = rw (ne-eqb (suc n) 0 (λ z. omega arith), ne-eqb (suc t) 0 (λ z. omega arith)) (le-refl 1)
 
-module _ (exact : Bool) (limit : Float) where
+module _ (others lids : Bool) (limit : Float) where
   abbrev most : Object → Most
-  most o = boundOf exact limit (o .shape)
+  most o = together (partOf false others limit (o .shape)) (partOf true lids limit (o .shape))
+
+  abbrev all : List Object → Most
+  all os = together (partOfAll false others limit os) (partOfAll true lids limit os)
 
   within : (o : Object) → Within limit (o .shape) (most o)
-  within o = bound-within limit exact (o .shape)
+  within o = parts-within limit others lids (o .shape)
 
   span-within : (v i : ℕ) (o : Object) → length (spanOf (o .id) v i (pieceOf limit v o)) ≤ most o .spans
   unfolding spanOf
   span-within v i o =
       rw (within o .spans) (one-or-none (length (pieceOf limit v o .indices)) (most o .triangles) _ (omega (arith, piece-size limit v o, within o .triangles)))
 
-  kept-all : (os : List Object) → sumOf (λ (o : Object). keptBy limit (o .shape)) os ≤ mostOfAll exact limit os .triangles
-  unfolding sumOf mostOfAll
+  kept-all : (os : List Object) → sumOf (λ (o : Object). keptBy limit (o .shape)) os ≤ all os .triangles
+  unfolding sumOf partOfAll
   kept-all [] = zero-le
   kept-all (o ∷ os) = omega (arith, within o .triangles, kept-all os)
 
   mesh-within : (os : List Object) (v i : ℕ)
-      → (length (meshFrom limit v i os .vertices) ≤ mostOfAll exact limit os .vertices) × (length (meshFrom limit v i os .spans) ≤ mostOfAll exact limit os .spans)
-  unfolding meshFrom addPiece mostOfAll pieceOf
+      → (length (meshFrom limit v i os .vertices) ≤ all os .vertices) × (length (meshFrom limit v i os .spans) ≤ all os .spans)
+  unfolding meshFrom addPiece partOfAll pieceOf
   mesh-within [] v i = (zero-le, zero-le)
   mesh-within (o ∷ os) v i =
       let p = pieceOf limit v o in
@@ -127,12 +144,12 @@ module _ (exact : Bool) (limit : Float) where
         omega (arith, ih .1, length-append s (m .spans), span-within v i o),
       )
 
-  logs-within : (os : List Object) → length (logsOf os) ≤ mostOfAll exact limit os .entries
-  unfolding logsOf join mostOfAll
+  logs-within : (os : List Object) → length (logsOf os) ≤ all os .entries
+  unfolding logsOf join partOfAll
   logs-within [] = zero-le
   logs-within (o ∷ os) = omega (arith, length-append (logOf (o .shape)) (logsOf os), within o .entries, logs-within os)
 
-  pub most-enough : (os : List Object) → LongEnough (mostCounts exact limit os) (countsOf (output limit os))
+  pub most-enough : (os : List Object) → LongEnough (mostCounts others lids limit os) (countsOf (output limit os))
   unfolding mostCounts output countsOf meshOf accountsOf normalNumbers spanNumbers accountNumbers logNumbers
   most-enough os =
       let m = meshFrom limit 0 0 os in

@@ -1,7 +1,7 @@
--- The most that objects can come to, by the kinds and counts that their records' headers tell, and a nearer bound. proofs/Bounds shows that both are
+-- The most that objects can come to, by the kinds and counts that their records' headers tell, and nearer bounds. proofs/Bounds shows that each is
 -- enough, and proofs/Exact of crate computed computes that one object of each kind comes to just the most. Definitions only.
 use Prim.Native.Nat.{ℕ, _+_, _-_, _*_, _≤_}
-use mathlib.Core.Bool.{Bool, true, false, not, _&&_, cond}
+use mathlib.Core.Bool.{Bool, true, false, not, cond}
 use mathlib.Core.List.{List, [], _∷_}
 use lib.ListN.{length}
 use lib.Dec.{eqb}
@@ -53,30 +53,35 @@ hasLid (outline closed cs holes) = closed
 hasLid (sweep ss) = false
 hasLid (roundSweep ss) = false
 
--- The most, or the nearer bound: what the shape comes to, but the most where a lid would have to be cut for it.
-unfoldable pub boundOf : Bool → Float → Shape → Most
-boundOf exact limit sh = cond (exact && not (hasLid sh)) (exactOf limit sh) (mostOf sh)
-
--- ---- of objects
+-- ---- of objects, those with lids and the others apart, because measuring a lid takes cutting it
 
 abbrev pub nothing : Most
 nothing = record { vertices = 0; triangles = 0; spans = 0; entries = 0 }
+
+unfoldable pub inPart : Bool → Shape → Bool
+inPart true sh = hasLid sh
+inPart false sh = not (hasLid sh)
+
+-- what the shape comes to, or the most of it; nothing for one of the other part
+unfoldable pub partOf : Bool → Bool → Float → Shape → Most
+partOf lids exact limit sh = cond (inPart lids sh) (cond exact (exactOf limit sh) (mostOf sh)) nothing
 
 abbrev pub together : Most → Most → Most
 together a b =
     record { vertices = a .vertices + b .vertices; triangles = a .triangles + b .triangles; spans = a .spans + b .spans; entries = a .entries + b .entries }
 
-unfoldable pub mostOfAll : Bool → Float → List Object → Most
-mostOfAll exact limit [] = nothing
-mostOfAll exact limit (o ∷ os) = together (boundOf exact limit (o .shape)) (mostOfAll exact limit os)
+unfoldable pub partOfAll : Bool → Bool → Float → List Object → Most
+partOfAll lids exact limit [] = nothing
+partOfAll lids exact limit (o ∷ os) = together (partOf lids exact limit (o .shape)) (partOfAll lids exact limit os)
 
 -- the numbers that n objects take in each buffer
 abbrev pub numbersOf : Most → ℕ → Counts
 numbersOf m n =
     record { vertices = 3 * m .vertices; normals = 3 * m .vertices; indices = 3 * m .triangles; spans = 5 * m .spans; account = 4 * n; log = 4 * m .entries }
 
-unfoldable pub mostCounts : Bool → Float → List Object → Counts
-mostCounts exact limit os = numbersOf (mostOfAll exact limit os) (length os)
+-- by whether the objects without lids, and those with lids, are measured
+unfoldable pub mostCounts : Bool → Bool → Float → List Object → Counts
+mostCounts others lids limit os = numbersOf (together (partOfAll false others limit os) (partOfAll true lids limit os)) (length os)
 
 -- ---- all of it fits the program's numbers
 

@@ -3,7 +3,7 @@ use mathlib.Core.Path.{_≡_, sym, ap, _∙_, subst}
 use mathlib.Core.Bool.{Bool}
 use mathlib.Core.List.{List}
 use Prim.Native.Nat.{ℕ, _+_, _≤_, _<_, zero-le}
-use native.Mathlib.Nat.{zero-add, add-zero, add-assoc}
+use native.Mathlib.Nat.{add-assoc}
 use native.Mathlib.Omega.{arith}
 use lib.ListN.{length, getD, drop, drop-of-length-le}
 use Rattle.float.specs.Number.{minArea}
@@ -16,14 +16,9 @@ use Rattle.scene.specs.Headers.{bodyAt, headerAt, shapeOf}
 use Rattle.scene.proofs.Walk.{Walking, walk-object, walk-next, walk-limits, walk-inside, AcceptedAs, checked-accepted, trailer-inside}
 use Rattle.shapes.specs.Drawn.{CanDraw}
 use Rattle.most.specs.declared.Most.{Most}
-use Rattle.most.specs.Most.{boundOf, nothing, together, mostOfAll, Few}
+use Rattle.most.specs.Most.{nothing, together, partOf, partOfAll, Few}
+use Rattle.most.proofs.Bounds.{together-none, none-together}
 use Rattle.scene_most.proofs.Headers.{few-bound}
-
-together-none : (m : Most) → together m nothing ≡ m
-together-none m = λ i. record { vertices = add-zero (m .vertices) i; triangles = add-zero (m .triangles) i; spans = add-zero (m .spans) i; entries = add-zero (m .entries) i }
-
-none-together : (m : Most) → together nothing m ≡ m
-none-together m = λ i. record { vertices = zero-add (m .vertices) i; triangles = zero-add (m .triangles) i; spans = zero-add (m .spans) i; entries = zero-add (m .entries) i }
 
 together-more : (a b c : Most) → together (together a b) c ≡ together a (together b c)
 together-more a b c = λ i. record {
@@ -36,17 +31,27 @@ together-more a b c = λ i. record {
 pub objects-count : (s : List ℕ) (n : ℕ) → Accepted n ≡ checkedOf (scene s) → (os : List Object) → scene s ≡ accepted os → n ≡ length os
 objects-count s n h os e = sym (checked-accepted s n h .size) ∙ ap (λ (t : Scene). length (objectsOf t)) e
 
--- k records lie before place `at`, and come to m at the most
-pub record Sums (exact : Bool) (s : List ℕ) (n : ℕ) (m : Most) (at k : ℕ) : Type 0 where
+pub few-both : {a b m : Most} → Few a 16777216 65536 → Few b 16777216 65536 → m ≡ together a b → Few m 33554432 131072
+few-both f g e =
+    subst (λ (m : Most). Few m 33554432 131072) (sym e)
+    (record {
+      vertices = omega (arith, f .vertices, g .vertices);
+      triangles = omega (arith, f .triangles, g .triangles);
+      spans = omega (arith, f .spans, g .spans);
+      entries = omega (arith, f .entries, g .entries);
+    })
+
+-- k records lie before place `at`, and come to m in this part
+pub record Sums (lids exact : Bool) (s : List ℕ) (n : ℕ) (m : Most) (at k : ℕ) : Type 0 where
   pub known : AcceptedAs s n (objectsOf (scene s))
   pub walking : Walking s (trailer s n) n (objectsOf (scene s)) k at
   pub count : k ≤ n
   pub place : at ≤ trailer s n
   pub few : Few m at k
-  pub same : together m (mostOfAll exact minArea (drop k (objectsOf (scene s)))) ≡ mostOfAll exact minArea (objectsOf (scene s))
+  pub same : together m (partOfAll lids exact minArea (drop k (objectsOf (scene s)))) ≡ partOfAll lids exact minArea (objectsOf (scene s))
 
-pub sums-start : (exact : Bool) (s : List ℕ) (n : ℕ) → Accepted n ≡ checkedOf (scene s) → Sums exact s n nothing 0 0
-sums-start exact s n h =
+pub sums-start : (lids exact : Bool) (s : List ℕ) (n : ℕ) → Accepted n ≡ checkedOf (scene s) → Sums lids exact s n nothing 0 0
+sums-start lids exact s n h =
     let q = checked-accepted s n h in
     record {
       known = q;
@@ -54,18 +59,18 @@ sums-start exact s n h =
       count = zero-le;
       place = zero-le;
       few = record { vertices = zero-le; triangles = zero-le; spans = zero-le; entries = zero-le };
-      same = none-together (mostOfAll exact minArea (objectsOf (scene s)));
+      same = none-together (partOfAll lids exact minArea (objectsOf (scene s)));
     }
 
-module _ {exact : Bool} {s : List ℕ} {n : ℕ} {m : Most} {at k : ℕ} (w : Sums exact s n m at k) where
+module _ {lids exact : Bool} {s : List ℕ} {n : ℕ} {m : Most} {at k : ℕ} (w : Sums lids exact s n m at k) where
   abbrev os : List Object
   os = objectsOf (scene s)
 
   abbrev bound : Header → Most
-  bound h = boundOf exact minArea (shapeOf s (at + 5) (h .body))
+  bound h = partOf lids exact minArea (shapeOf s (at + 5) (h .body))
 
   abbrev sum : List Object → Most
-  sum = mostOfAll exact minArea
+  sum = partOfAll lids exact minArea
 
   module _ (l : k < n) where
     can-draw : CanDraw s (at + 5) (headerAt s at .body) 0
@@ -74,7 +79,7 @@ module _ {exact : Bool} {s : List ℕ} {n : ℕ} {m : Most} {at k : ℕ} (w : Su
 
     few-next : Few (bound (headerAt s at)) (headerAt s at .size) 1
     unfolding headerAt
-    few-next = few-bound exact s (at + 5) (bodyAt s (at + 5) (getD s at 0))
+    few-next = few-bound lids exact s (at + 5) (bodyAt s (at + 5) (getD s at 0))
 
     module _ {h : Header} (e : h ≡ headerAt s at) where
       pub can-read : CanDraw s (at + 5) (h .body) 0
@@ -100,7 +105,7 @@ module _ {exact : Bool} {s : List ℕ} {n : ℕ} {m : Most} {at k : ℕ} (w : Su
             let r = w .few .entries in
             record { vertices = omega arith; triangles = omega arith; spans = omega arith; entries = omega arith }
 
-        pub can-sum : Few (together m x) 16777216 65536
+        pub can-sum : Few (together m x) 33554432 131072
         can-sum =
             let f = few-more in
             let v = f .vertices in
@@ -111,8 +116,8 @@ module _ {exact : Bool} {s : List ℕ} {n : ℕ} {m : Most} {at k : ℕ} (w : Su
             let few = w .known .few in
             record { vertices = omega arith; triangles = omega arith; spans = omega arith; entries = omega arith }
 
-        pub sums-next : {m′ : Most} → m′ ≡ together m x → Sums exact s n m′ (at + h .size) (k + 1)
-        unfolding mostOfAll
+        pub sums-next : {m′ : Most} → m′ ≡ together m x → Sums lids exact s n m′ (at + h .size) (k + 1)
+        unfolding partOfAll
         sums-next d =
             let y = bound (headerAt s at) in
             let is : x ≡ y = q ∙ ap bound e in
@@ -132,7 +137,7 @@ module _ {exact : Bool} {s : List ℕ} {n : ℕ} {m : Most} {at k : ℕ} (w : Su
             }
 
   pub sums-end : n ≤ k → Few m 16777216 65536 × ((os′ : List Object) → scene s ≡ accepted os′ → m ≡ sum os′)
-  unfolding mostOfAll
+  unfolding partOfAll
   sums-end h =
       let size = w .known .size in
       let few = w .known .few in

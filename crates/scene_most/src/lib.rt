@@ -1,6 +1,6 @@
 // The most that the objects of an accepted scene can come to, told by the headers of their records
-// alone, and a nearer bound, in which only closed outlines count as their most and all else is
-// measured. Buffers with room for either need no measuring of the lids.
+// alone, and what they come to, measured. Objects with lids and those without are summed apart:
+// measuring lids takes far longer, and is left to last.
 ghost use mathlib.Core.Path.{_≡_};
 ghost use mathlib.Core.List.{List};
 ghost use Prim.Native.Nat.{ℕ, _≤_};
@@ -12,7 +12,7 @@ ghost use Rattle.scene.specs.Answers.{checkedOf};
 ghost use Rattle.scene.specs.Headers.{shapeOf, Limits};
 ghost use Rattle.shapes.specs.Drawn.{CanDraw};
 ghost use Rattle.answers.specs.Answers.{countsFrom};
-ghost use Rattle.most.specs.Most.{mostOf, exactOf, hasLid, boundOf, together, mostOfAll, mostCounts, Few};
+ghost use Rattle.most.specs.Most.{mostOf, exactOf, hasLid, inPart, together, partOf, partOfAll, numbersOf, Few};
 use answers::Counted;
 use answers::min_area;
 use headers::header_at;
@@ -77,19 +77,36 @@ fn has_lid(body: Body) -> bool
     }
 }
 
-// Its most, or what it comes to where that is wanted and no lid must be cut for it.
-fn bound_at(s: &[u8], i: usize, body: Body, exact: bool) -> Most
-    requires { ⌜ CanDraw (now s) i body 0 ⌝ }
-    ensures { λ r. ⌜ r ≡ boundOf exact minArea (shapeOf (now (s .entry)) i body) ⌝ }
+fn in_part(body: Body, lids: bool) -> bool
+    ensures { λ r. ⌜ ((s : List ℕ) (i : ℕ) → r ≡ inPart lids (shapeOf s i body)) ⌝ }
 {
-    if exact & !has_lid(body) {
+    if lids {
+        return has_lid(body);
+    }
+    !has_lid(body)
+}
+
+// Nothing for an object of the other part.
+fn bound_at(s: &[u8], i: usize, body: Body, lids: bool, exact: bool) -> Most
+    requires { ⌜ CanDraw (now s) i body 0 ⌝ }
+    ensures { λ r. ⌜ r ≡ partOf lids exact minArea (shapeOf (now (s .entry)) i body) ⌝ }
+{
+    if !in_part(body, lids) {
+        return Most {
+            vertices: 0,
+            triangles: 0,
+            spans: 0,
+            entries: 0,
+        };
+    }
+    if exact {
         return exact_at(s, i, body);
     }
     most_at(s, i, body)
 }
 
 fn add(a: Most, b: Most) -> Most
-    requires { ⌜ Few (together a b) 16777216 65536 ⌝ }
+    requires { ⌜ Few (together a b) 33554432 131072 ⌝ }
     ensures { λ r. ⌜ r ≡ together a b ⌝ }
 {
     Most {
@@ -100,10 +117,10 @@ fn add(a: Most, b: Most) -> Most
     }
 }
 
-// All n objects.
-fn most_of_all(s: &[u8], n: u32, exact: bool) -> Most
+// Those of the n objects that have lids, or the others: measured, or the most.
+pub fn part_of_all(s: &[u8], n: u32, lids: bool, exact: bool) -> Most
     requires { ⌜ Accepted n ≡ checkedOf (scene (now s)) ⌝ }
-    ensures { λ r. ⌜ Few r 16777216 65536 × ((os : List Object) → scene (now (s .entry)) ≡ accepted os → r ≡ mostOfAll exact minArea os) ⌝ }
+    ensures { λ r. ⌜ Few r 16777216 65536 × ((os : List Object) → scene (now (s .entry)) ≡ accepted os → r ≡ partOfAll lids exact minArea os) ⌝ }
 {
     let mut most = Most {
         vertices: 0,
@@ -116,19 +133,19 @@ fn most_of_all(s: &[u8], n: u32, exact: bool) -> Most
     while k < n {
         let h = header_at(s, at);
         let body = h.body;
-        most = add(most, bound_at(s, at + 5, body, exact));
+        most = add(most, bound_at(s, at + 5, body, lids, exact));
         at = at + h.size;
         k = k + 1;
     }
     most
 }
 
-// The most numbers that each buffer can get; `exact` asks for the nearer bound.
-pub fn most_counts(s: &[u8], n: u32, exact: bool) -> Counted
-    requires { ⌜ Accepted n ≡ checkedOf (scene (now s)) ⌝ }
-    ensures { λ r. ⌜ ((os : List Object) → scene (now (s .entry)) ≡ accepted os → countsFrom r ≡ mostCounts exact minArea os) ⌝ }
+// The most numbers that each buffer can get from n objects, by the two parts of them.
+pub fn bound_counts(others: Most, lids: Most, n: u32) -> Counted
+    requires { ⌜ Few others 16777216 65536 × Few lids 16777216 65536 × (n ≤ 65536) ⌝ }
+    ensures { λ r. ⌜ countsFrom r ≡ numbersOf (together others lids) n ⌝ }
 {
-    let m = most_of_all(s, n, exact);
+    let m = add(others, lids);
     Counted {
         vertices: 3 * m.vertices,
         normals: 3 * m.vertices,

@@ -1,9 +1,8 @@
 -- `build::plan_objects` meets its contract. Assumes nothing.
 use mathlib.Core.Path.{_≡_, refl, sym, _∙_}
-use mathlib.Core.Bool.{true, false}
+use mathlib.Core.Bool.{false}
 use mathlib.Core.List.{[], _∷_}
 use mathlib.Core.Logic.{⊎-elim}
-use Prim.Native.Nat.{ℕ}
 use native.Mathlib.Omega.{arith}
 use types.Run.{OneOf}
 use denote.Enum.Declared.{tagOf}
@@ -11,7 +10,7 @@ use borrow.Author.Needs.{needs}
 use Rattle.answers.proofs.BuiltAnswer.{the-type}
 use Rattle.answers.specs.declared.BuiltAnswer.{BuiltAnswer}
 use Rattle.answers.specs.declared.BuiltAnswer.the-variants.{Refused, ShortVertices, ShortIndices, ShortRecords, Complete}
-use Rattle.build.proofs.Built.{isComplete, plan-surely, plan-measured, plan-short}
+use Rattle.build.proofs.Built.{isComplete, plan-measured, plan-short}
 use Rattle.build.proofs.plan_objects.Statement.{statement}
 use Rattle.build.proofs.plan_objects.Tie as tie
 
@@ -27,19 +26,13 @@ not-complete (Complete c) h = absurd (none h)
     none q = ⊎-elim (λ e. omega arith) (⊎-elim (λ e. omega arith) (⊎-elim (λ e. omega arith) (λ e. omega arith))) q
 
 returns : tie.Need-returns
-returns c = plan-surely _ _ _ (c .before .before .before .before .before .pre) _ false (c .before .before .before .most-counts .ensures) _ (sym (c .enum-told .given .1) ∙ c .before .before .room .ensures)
+returns c = (c .before .before .before .pre, c .before .surely-fit .ensures (c .if1 .taken))
 
 returns-2 : tie.Need-returns-2
-returns-2 c = plan-surely _ _ _ (c .before .before .before .before .before .before .before .before .pre) _ true (c .before .before .before .most-counts2 .ensures) _ (sym (c .enum-told2 .given .1) ∙ c .before .before .room2 .ensures)
+returns-2 c = plan-measured _ _ _ (c .before .before .before .before .before .before .before .pre) _ (c .before .before .before .count-objects .ensures) _ (sym (c .enum-told .given .1) ∙ c .before .before .room .ensures)
 
 returns-3 : tie.Need-returns-3
-returns-3 c = plan-measured _ _ _ (c .before .before .before .before .before .before .before .before .before .before .before .pre) _ (c .before .before .before .count-objects .ensures) _ (sym (c .enum-told3 .given .1) ∙ c .before .before .room3 .ensures)
-
-returns-4 : tie.Need-returns-4
-returns-4 c = plan-short _ _ _ (c .before .before .before .before .before .before .before .before .before .before .pre) _ (c .before .before .count-objects .ensures) (c .before .room3 .result) (not-complete (c .before .room3 .result) (c .match3 .keys2)) (c .before .room3 .ensures)
+returns-3 c = plan-short _ _ _ (c .before .before .before .before .before .before .pre) _ (c .before .before .count-objects .ensures) (c .before .room .result) (not-complete (c .before .room .result) (c .match .keys2)) (c .before .room .ensures)
 
 pub plan-objects-spec : {M : Type 1} → statement M
-plan-objects-spec =
-    tie.close
-    (tie.spec (λ c κs. c .before .pre) (λ c κs. tt) (λ c. search needs) returns (λ c κs. c .before .before .before .before .pre) (λ c κs. tt) (λ c. search needs) returns-2
-    (λ c κs. c .before .before .before .before .before .before .before .pre) (λ c κs. tt) (λ c. search needs) returns-3 returns-4)
+plan-objects-spec = tie.close (tie.spec (λ c κs. c .before .pre) returns (λ c κs. c .before .before .before .pre) (λ c κs. tt) (λ c. search needs) returns-2 returns-3)

@@ -1,19 +1,19 @@
--- `scene_most::most_of_all` meets its contract. Assumes nothing.
+-- `scene_most::part_of_all` meets its contract. Assumes nothing.
 use Prim.Native.Nat.{_-_}
 use native.Mathlib.Omega.{arith}
 use borrow.Author.Needs.{needs}
 use Rattle.scene_most.proofs.Sums.{Sums, sums-start, can-read, place-fits, can-sum, sums-next, sums-end}
-use Rattle.scene_most.proofs.most_of_all.Statement.{statement}
-use Rattle.scene_most.proofs.most_of_all.Tie as tie
+use Rattle.scene_most.proofs.part_of_all.Statement.{statement}
+use Rattle.scene_most.proofs.part_of_all.Tie as tie
 
 abbrev Inv-loop : tie.InvT-loop
-Inv-loop s n exact most₀ at₀ k₀ most at k = Sums exact s n most at k
+Inv-loop s n lids exact most₀ at₀ k₀ most at k = Sums lids exact s n most at k
 
 abbrev μ-loop : tie.MeasureT-loop
-μ-loop s n exact most₀ at₀ k₀ most at k = n - k
+μ-loop s n lids exact most₀ at₀ k₀ most at k = n - k
 
 loop-holds : tie.Need-loop-holds Inv-loop μ-loop
-loop-holds c = sums-start _ _ _ (c .before .pre)
+loop-holds c = sums-start _ _ _ _ (c .before .pre)
 
 add-bound-at : tie.Need-add-bound-at Inv-loop μ-loop
 add-bound-at c = let q = can-read (c .before .before .loop .inv) (c .before .loop-test .taken) (c .header-at .ensures) in omega (arith, q .inside, q .short)
@@ -33,8 +33,8 @@ loop-again c = sums-next (c .before .before .before .before .before .loop .inv) 
 returns : tie.Need-returns Inv-loop μ-loop
 returns c = sums-end (c .before .loop .inv) (c .loop-test .left)
 
-pub most-of-all-spec : {M : Type 1} → statement M
-most-of-all-spec =
+pub part-of-all-spec : {M : Type 1} → statement M
+part-of-all-spec =
     tie.close
     (tie.spec Inv-loop μ-loop loop-holds (λ c κs. search needs) add-bound-at bound-at-requires add-requires add-at (λ c. omega arith) (λ c. omega arith)
     loop-again returns)
