@@ -1,5 +1,4 @@
-// Build: tests the room, by the most that the objects can come to or else measured, and then
-// writes.
+// Build: tests the room, by the most that the objects can come to or else measured, and then writes.
 ghost use mathlib.Core.Path.{_≡_};
 ghost use mathlib.Core.Bool.{true};
 ghost use Prim.Native.Nat.{_≤_};
