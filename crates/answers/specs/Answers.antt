@@ -9,7 +9,7 @@ use lib.Dec.{ltb}
 use lib.Ieee.{Float}
 use Rattle.object.specs.Object.{Object}
 use Rattle.scene.specs.Scene.{numberOf}
-use Rattle.mesh.specs.declared.Validation.{Validation}
+use Rattle.validation.specs.declared.Validation.{Validation}
 use Rattle.mesh.specs.Validate.{validate}
 use Rattle.answers.specs.declared.Counted.{Counted}
 use Rattle.answers.specs.declared.Lengths.{Lengths}

@@ -3,9 +3,9 @@ ghost use mathlib.Core.Path.{_≡_};
 ghost use lib.Dec.{ltb};
 ghost use Rattle.float.specs.Number.{minArea};
 ghost use Rattle.answers.specs.Answers.{lengthsFrom, roomFor, measuredAnswer, builtAnswer, answerNumbers};
-use mesh::Validation;
 use scene::Refusal;
 use scene::refusal_number;
+use validation::Validation;
 
 // How many numbers each buffer gets.
 pub struct Counted {

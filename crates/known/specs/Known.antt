@@ -14,7 +14,8 @@ use Rattle.lid.specs.Areas.{outerTerm, joinedTerm, markedTerm, leftTerm}
 use Rattle.lid.specs.Log.{isMark, leftOver}
 use Rattle.lid.specs.Rings.{ringsFrom}
 use Rattle.shapes.specs.Shapes.{flatOf, outlineLid}
-use Rattle.mesh.specs.Validate.{validationNumbers, validate}
+use Rattle.validation.specs.Numbers.{validationNumbers}
+use Rattle.mesh.specs.Validate.{validate}
 use Rattle.scene_mesh.specs.Mesh.{meshOf}
 use Rattle.scene_mesh.specs.Operations.{measure, output}
 use Rattle.scene_mesh.specs.Samples.{solidBytes, solidAtX, upright, outlineBytes, thinBytes, sceneBytes, same, objectsIn}

@@ -12,8 +12,8 @@ use borrow.Author.Tests.{eq-eqb}
 use lib.Ieee.{Float}
 use Rattle.coords.specs.declared.Point.{Point}
 use Rattle.coords.specs.Coords.{noArea, origin}
-use Rattle.mesh.specs.declared.Verdict.{Verdict}
-use Rattle.mesh.specs.declared.Verdict.the-variants.{Ok, IndexOutOfRange, DegenerateTriangle}
+use Rattle.validation.specs.declared.Verdict.{Verdict}
+use Rattle.validation.specs.declared.Verdict.the-variants.{Ok, IndexOutOfRange, DegenerateTriangle}
 use Rattle.mesh.specs.Validate.{degenerate, triangleAt, trianglesFrom, orLater}
 
 -- a triangle of one index, of two and of three, by its tests

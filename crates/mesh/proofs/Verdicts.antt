@@ -16,8 +16,8 @@ use Rattle.lists.specs.Each.{Each}
 use Rattle.float.specs.Number.{isFinite}
 use Rattle.coords.specs.declared.Point.{Point}
 use Rattle.coords.specs.Coords.{origin, noArea, finitePoint}
-use Rattle.mesh.specs.declared.Verdict.{Verdict}
-use Rattle.mesh.specs.declared.Verdict.the-variants.{Ok, Empty}
+use Rattle.validation.specs.declared.Verdict.{Verdict}
+use Rattle.validation.specs.declared.Verdict.the-variants.{Ok, Empty}
 use Rattle.mesh.specs.Validate.{degenerate, trianglesFrom, notFinite, verdictAt, verdict}
 use Rattle.lists.proofs.Lists.{each-getD}
 use Rattle.coords.proofs.Near.{NearP, origin-near}

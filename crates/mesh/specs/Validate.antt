@@ -13,11 +13,10 @@ use Rattle.coords.specs.declared.Point.{Point}
 use Rattle.coords.specs.Buffers.{verticesIn}
 unfoldable pub use Rattle.faults.specs.Faults.{degenerate}
 pub use Rattle.faults.specs.Faults.{notFinite}
-use Rattle.mesh.specs.declared.Judgement.{Judgement}
-use Rattle.mesh.specs.declared.Validation.{Validation}
-use Rattle.mesh.specs.declared.Validation.the-variants.{Judged, PartialVertex}
-use Rattle.mesh.specs.declared.Verdict.{Verdict}
-use Rattle.mesh.specs.declared.Verdict.the-variants.{Ok, Empty, NonFiniteVertex, IndexOutOfRange, DegenerateTriangle}
+use Rattle.validation.specs.declared.Validation.{Validation}
+use Rattle.validation.specs.declared.Validation.the-variants.{Judged, PartialVertex}
+use Rattle.validation.specs.declared.Verdict.{Verdict}
+use Rattle.validation.specs.declared.Verdict.the-variants.{Ok, Empty, NonFiniteVertex, IndexOutOfRange, DegenerateTriangle}
 
 -- the triangles from number t on
 unfoldable pub trianglesFrom : Float → List Point → ℕ → List ℕ → Verdict
@@ -68,20 +67,3 @@ validateAt limit vertices indices = cond (eqb (length vertices % 3) 0) (Judged (
 
 unfoldable pub validate : List Float → List ℕ → Validation
 validate vertices indices = validateAt minArea vertices indices
-
--- ---- in numbers: the refusal of document 01, section 2, and 0 where there is none; the object named, 0; the verdict, in the order of the Rust's cases; the
--- index that names no vertex; the place, which is the vertex or the triangle; and the count of vertices. What a case does not have is 0.
-
-abbrev pub judgement : ℕ → ℕ → ℕ → ℕ → ℕ → Judgement
-judgement refusal verdict index place count = record { refusal = refusal; object = 0; verdict = verdict; index = index; place = place; count = count }
-
-unfoldable pub verdictNumbers : Verdict → Judgement
-verdictNumbers Ok = judgement 0 0 0 0 0
-verdictNumbers Empty = judgement 0 1 0 0 0
-verdictNumbers (NonFiniteVertex i) = judgement 0 2 0 i 0
-verdictNumbers (IndexOutOfRange t i n) = judgement 0 3 i t n
-verdictNumbers (DegenerateTriangle t) = judgement 0 4 0 t 0
-
-unfoldable pub validationNumbers : Validation → Judgement
-validationNumbers (Judged v) = verdictNumbers v
-validationNumbers PartialVertex = judgement 11 0 0 0 0

@@ -2,42 +2,15 @@
 ghost use mathlib.Core.Path.{_≡_};
 ghost use lib.ListN.{getD};
 ghost use Rattle.coords.specs.Buffers.{verticesIn};
-ghost use Rattle.mesh.specs.Validate.{triangleAt, trianglesFrom, validateAt, validate, judgement, verdictNumbers, validationNumbers};
+ghost use Rattle.mesh.specs.Validate.{triangleAt, trianglesFrom, validateAt, validate};
 use faults::degenerate;
 use faults::first_not_finite;
 use lists::Found;
+use validation::Validation;
+use validation::Verdict;
 
 // Twice the area, in square metres, below which a triangle has none worth drawing or colliding with.
 const MIN_AREA: f32 = 0.000001;
-
-pub enum Verdict {
-    Ok,
-    // No triangles at all.
-    Empty,
-    // A vertex with a NaN or an infinity.
-    NonFiniteVertex(usize),
-    // A triangle, the vertex that it names, and how many vertices there are.
-    IndexOutOfRange(usize, u32, usize),
-    // A triangle that repeats a vertex, whose corners lie in a line, or which lacks a corner.
-    DegenerateTriangle(usize),
-}
-
-// What Validate answers: a verdict, or that the vertices' numbers are no whole threes.
-pub enum Validation {
-    Judged(Verdict),
-    PartialVertex,
-}
-
-// A validation in numbers: `validationNumbers` of specs/Validate.antt gives them for each case.
-#[repr(C)]
-pub struct Judgement {
-    pub refusal: u32,
-    pub object: u32,
-    pub verdict: u32,
-    pub index: u32,
-    pub place: u64,
-    pub count: u64,
-}
 
 // What is wrong with triangle t, of the vertices numbered a, b and c, if anything is.
 fn triangle(limit: f32, vertices: &[f32], t: usize, a: u32, b: u32, c: u32) -> Verdict
@@ -112,44 +85,4 @@ pub fn validate(vertices: &[f32], indices: &[u32]) -> Validation
     ensures { λ r. ⌜ r ≡ validate (now (vertices .entry)) (now (indices .entry)) ⌝ }
 {
     validate_at(MIN_AREA, vertices, indices)
-}
-
-impl Judgement {
-    fn new(refusal: u32, verdict: u32, index: u32, place: u64, count: u64) -> Judgement
-        ensures { λ r. ⌜ r ≡ judgement refusal verdict index place count ⌝ }
-    {
-        Judgement {
-            refusal,
-            object: 0,
-            verdict,
-            index,
-            place,
-            count,
-        }
-    }
-}
-
-impl Verdict {
-    fn numbers(self) -> Judgement
-        ensures { λ r. ⌜ r ≡ verdictNumbers self ⌝ }
-    {
-        match self {
-            Verdict::Ok => Judgement::new(0, 0, 0, 0, 0),
-            Verdict::Empty => Judgement::new(0, 1, 0, 0, 0),
-            Verdict::NonFiniteVertex(i) => Judgement::new(0, 2, 0, i as u64, 0),
-            Verdict::IndexOutOfRange(t, i, n) => Judgement::new(0, 3, i, t as u64, n as u64),
-            Verdict::DegenerateTriangle(t) => Judgement::new(0, 4, 0, t as u64, 0),
-        }
-    }
-}
-
-impl Validation {
-    pub fn numbers(self) -> Judgement
-        ensures { λ r. ⌜ r ≡ validationNumbers self ⌝ }
-    {
-        match self {
-            Validation::Judged(v) => v.numbers(),
-            Validation::PartialVertex => Judgement::new(11, 0, 0, 0, 0),
-        }
-    }
 }

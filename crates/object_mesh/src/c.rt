@@ -1,10 +1,11 @@
 // The functions that C calls, with their answers in numbers.
 ghost use mathlib.Core.Path.{_≡_};
-ghost use Rattle.mesh.specs.Validate.{validate, validationNumbers};
+ghost use Rattle.validation.specs.Numbers.{validationNumbers};
+ghost use Rattle.mesh.specs.Validate.{validate};
 ghost use Rattle.scene_mesh.specs.Operations.{lent, measure, build};
 ghost use Rattle.answers.specs.Answers.{answerNumbers};
 use answers::Answer;
-use mesh::Judgement;
+use validation::Judgement;
 
 #[no_mangle]
 pub extern "C" fn object_mesh_measure(scene: &[u8]) -> Answer

@@ -6,8 +6,8 @@ ghost use lib.ListN.{length};
 use answers::Answer;
 use libc::STDIN_FILENO;
 use libc::STDOUT_FILENO;
-use mesh::Validation;
-use mesh::Verdict;
+use validation::Validation;
+use validation::Verdict;
 
 fn write(text: &[u8]) {
     io::write_all(STDOUT_FILENO, text);

@@ -7,8 +7,8 @@ ghost use Prim.Native.Nat.{_≤_};
 ghost use lib.ListN.{length};
 use answers::Answer;
 use libc::STDOUT_FILENO;
-use mesh::Validation;
-use mesh::Verdict;
+use validation::Validation;
+use validation::Verdict;
 
 enum Next {
     Word(u32),

@@ -20,8 +20,8 @@ use Rattle.lid.specs.Log.{Entry, logNumbers, entriesIn, isMark}
 use Rattle.lid.specs.Areas.{AreasAgree}
 use Rattle.shapes.specs.Price.{offered}
 use Rattle.shapes.specs.Shapes.{facesOf, logOf, flatOf}
-use Rattle.mesh.specs.declared.Validation.the-variants.{Judged}
-use Rattle.mesh.specs.declared.Verdict.the-variants.{Ok, Empty}
+use Rattle.validation.specs.declared.Validation.the-variants.{Judged}
+use Rattle.validation.specs.declared.Verdict.the-variants.{Ok, Empty}
 use Rattle.mesh.specs.Validate.{validateAt}
 use Rattle.scene_mesh.specs.Mesh.{Span, Account, spansIn, accountsIn, keptBy, thinBy, logsOf}
 use Rattle.scene_mesh.specs.Operations.{Counts, Buffers, countsOf, measure, build}

@@ -4,8 +4,8 @@
 ghost use mathlib.Core.Path.{_≡_};
 ghost use lib.ListN.{length};
 use libc::STDOUT_FILENO;
-use mesh::Validation;
-use mesh::Verdict;
+use validation::Validation;
+use validation::Verdict;
 
 enum Next {
     Word(u32),

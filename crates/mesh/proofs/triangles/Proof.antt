@@ -10,9 +10,9 @@ use native.Mathlib.Omega.{arith}
 use lib.ListN.{length, drop}
 use Rattle.coords.specs.Buffers.{verticesIn}
 use Rattle.mesh.specs.Validate.{trianglesFrom, orLater}
-use Rattle.mesh.specs.declared.Verdict.{Verdict}
-use Rattle.mesh.specs.declared.Verdict.the-variants.{Ok, Empty, NonFiniteVertex, IndexOutOfRange, DegenerateTriangle}
-use Rattle.mesh.proofs.Verdict.{the-type}
+use Rattle.validation.specs.declared.Verdict.{Verdict}
+use Rattle.validation.specs.declared.Verdict.the-variants.{Ok, Empty, NonFiniteVertex, IndexOutOfRange, DegenerateTriangle}
+use Rattle.validation.proofs.Verdict.{the-type}
 use Rattle.mesh.proofs.Steps.{next, all-done}
 use Rattle.mesh.proofs.triangles.Statement.{statement}
 use Rattle.mesh.proofs.triangles.Tie as tie

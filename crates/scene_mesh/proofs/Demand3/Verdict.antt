@@ -17,9 +17,9 @@ use Rattle.coords.specs.Buffers.{vertexNumbers, verticesIn}
 use Rattle.object.specs.Object.{Object}
 use Rattle.face.specs.Faces.{writeFaces}
 use Rattle.shapes.specs.Shapes.{facesOf}
-use Rattle.mesh.specs.declared.Verdict.{Verdict}
-use Rattle.mesh.specs.declared.Verdict.the-variants.{Ok, Empty}
-use Rattle.mesh.specs.declared.Validation.the-variants.{Judged, PartialVertex}
+use Rattle.validation.specs.declared.Verdict.{Verdict}
+use Rattle.validation.specs.declared.Verdict.the-variants.{Ok, Empty}
+use Rattle.validation.specs.declared.Validation.the-variants.{Judged, PartialVertex}
 use Rattle.mesh.specs.Validate.{verdict, validateAt}
 use Rattle.scene_mesh.specs.Mesh.{keptBy, pieceOf, addPiece, meshFrom, meshOf}
 use Rattle.scene_mesh.specs.Operations.{output}

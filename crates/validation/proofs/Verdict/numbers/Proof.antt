@@ -1,8 +1,8 @@
 -- `Verdict::numbers` meets its contract. Assumes nothing.
-use Rattle.mesh.specs.Validate.{verdictNumbers}
+use Rattle.validation.specs.Numbers.{verdictNumbers}
 use borrow.Author.Needs.{needs}
-use Rattle.mesh.proofs.Verdict.numbers.Statement.{statement}
-use Rattle.mesh.proofs.Verdict.numbers.Tie as tie
+use Rattle.validation.proofs.Verdict.numbers.Statement.{statement}
+use Rattle.validation.proofs.Verdict.numbers.Tie as tie
 
 enum-told : tie.Need-enum-told
 enum-told c = search needs

@@ -1,8 +1,8 @@
 -- `Validation::numbers` meets its contract. Assumes nothing.
 use borrow.Author.Needs.{needs}
-use Rattle.mesh.specs.Validate.{validationNumbers}
-use Rattle.mesh.proofs.Validation.numbers.Statement.{statement}
-use Rattle.mesh.proofs.Validation.numbers.Tie as tie
+use Rattle.validation.specs.Numbers.{validationNumbers}
+use Rattle.validation.proofs.Validation.numbers.Statement.{statement}
+use Rattle.validation.proofs.Validation.numbers.Tie as tie
 
 enum-known-self : tie.Need-enum-known-self
 enum-known-self c = search needs
