@@ -11,14 +11,14 @@ ghost use Rattle.shapes.specs.Drawn.{CanDraw, DrewObject};
 use face::Tally;
 use object::Extent;
 use outlines::outline;
-use price::solids::solid_price;
-use price::sweeps::round_sweep_price;
-use price::sweeps::sweep_price;
 use round_sweeps::round_sweep;
 use scene::headers::Body;
 use shapes::Drawn;
 use shapes::NOTHING;
+use solid_prices::solid_price;
 use solids::solid;
+use sweep_prices::round_sweep_price;
+use sweep_prices::sweep_price;
 use sweeps::sweep;
 
 // n sections at `at`, as a sweep or a round one: they have no log, so what is drawn holds of any.

@@ -5,8 +5,8 @@ ghost use Prim.Native.Nat.{_*_};
 ghost use Rattle.face.specs.Faces.{triangle};
 ghost use Rattle.lid.specs.Log.{entry};
 ghost use Rattle.lid.specs.Written.{logWith, trianglesWith};
-use buffers::put_four;
-use buffers::put_numbers;
+use numbers::put_four;
+use numbers::put_numbers;
 
 // Writes entry n of the log.
 pub fn put_entry(log: &mut [u32], n: u32, mark: u32, a: u32, b: u32, c: u32)

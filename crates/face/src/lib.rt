@@ -13,7 +13,7 @@ use coords::Point;
 use offering::Sum;
 use offering::offer_all;
 use offering::offer_quad;
-use offering::thin_in_quad;
+use thin_quads::thin_in_quad;
 use vectors::Vector;
 use vertices::put_points;
 

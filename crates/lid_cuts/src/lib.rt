@@ -7,11 +7,11 @@ ghost use Rattle.lid.specs.Plane.{flatten};
 ghost use Rattle.lid.specs.Rings.{flats};
 ghost use Rattle.lid.specs.Written.{WritesLid};
 ghost use Rattle.lid_plane.specs.Outlines.{pointsAt, PointsIn, lidAt, Measured};
+use axes::first_axis;
+use axes::flat_corner;
 use fields::u16_in;
 use geometry::point_at;
 use lid_plane::OutlineAt;
-use plane::first_axis;
-use plane::flat_corner;
 use triangulation::triangulate;
 use vectors::Vector;
 

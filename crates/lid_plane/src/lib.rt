@@ -88,7 +88,7 @@ pub fn about(s: &[u8], at: usize, n: usize, lid: Vector) -> Vector
     requires { ⌜ CornersIn (now s) at n ⌝ }
     ensures { λ r. ⌜ r ≡ about (cornersAt (now (s .entry)) n at) lid ⌝ }
 {
-    plane::about(area_normal(s, at, n), lid)
+    axes::about(area_normal(s, at, n), lid)
 }
 
 // Whether the base of the corner at `at` differs from its top.

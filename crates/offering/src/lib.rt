@@ -1,15 +1,11 @@
 // The triangles of a face, one after the other: each is judged thin, or as it faces out or away, counted,
 // and written if it is kept.
 ghost use mathlib.Core.Path.{_≡_};
-ghost use mathlib.Core.List.{List, [], _∷_};
-ghost use Prim.Native.Nat.{ℕ, _+_, _*_, _<_, _≤_, _/_, _^_};
-ghost use lib.Ieee.{lt};
+ghost use mathlib.Core.List.{[], _∷_};
+ghost use Prim.Native.Nat.{_+_, _*_, _<_, _/_, _^_};
 ghost use lib.ListN.{length};
 ghost use lib.Seq.{sets};
 ghost use Rattle.lists.specs.Each.{Each};
-ghost use Rattle.vectors.specs.declared.Vector.{Vector};
-ghost use Rattle.vectors.specs.Vectors.{cross, norm};
-ghost use Rattle.coords.specs.Coords.{diff};
 ghost use Rattle.coords.specs.Buffers.{verticesIn};
 ghost use Rattle.offering.specs.Triangles.{triangle, TriangleLow, triangleAt, trianglesIn};
 ghost use Rattle.offering.specs.Offered.{sideOf, sideIn, cornersOf, gathered, offered, offerOne, offerAll};
@@ -57,7 +53,7 @@ fn offer(s: Sum, k: Side, a: u32, b: u32, c: u32, n: u32, is: &mut [u32]) -> Sum
             thin: s.thin + 1,
         },
         Side::Front(v) => {
-            buffers::put_numbers(is, n, a, b, c);
+            numbers::put_numbers(is, n, a, b, c);
             Sum {
                 normal: normal.add(v),
                 kept: s.kept + 1,
@@ -65,7 +61,7 @@ fn offer(s: Sum, k: Side, a: u32, b: u32, c: u32, n: u32, is: &mut [u32]) -> Sum
             }
         }
         Side::Back(v) => {
-            buffers::put_numbers(is, n, a, c, b);
+            numbers::put_numbers(is, n, a, c, b);
             Sum {
                 normal: normal.sub(v),
                 kept: s.kept + 1,
@@ -114,21 +110,6 @@ pub fn offer_quad(
         place,
         is,
     )
-}
-
-fn is_thin(limit: f32, a: Point, b: Point, c: Point) -> bool
-    ensures { λ r. ⌜ r ≡ lt (norm (cross (diff b a) (diff c a))) limit ⌝ }
-{
-    b.sub(a).cross(c.sub(a)).shorter_than(limit)
-}
-
-// How many triangles of a face of four points are thin, which is all that counts where nothing is written.
-pub fn thin_in_quad(a: Point, b: Point, c: Point, d: Point, limit: f32) -> u32
-    ensures { λ r. ⌜ (r ≤ 2) × ((out : Vector) (base n : ℕ) (is : List ℕ) → r ≡ offerAll limit (a ∷ b ∷ c ∷ d ∷ []) out base n is (triangle 0 1 2 ∷ triangle 0 2 3 ∷ []) .sum .thin) ⌝ }
-{
-    let x = is_thin(limit, a, b, c) as u32;
-    let y = is_thin(limit, a, c, d) as u32;
-    x + y
 }
 
 // How the triangle of three of the points lies.

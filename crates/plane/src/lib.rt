@@ -1,11 +1,8 @@
-// The steps of `lid_normal`, `about` and of flattening: a caller reads an outline's corners one at a time.
+// The steps of `lid_normal`: a caller reads an outline's corners one at a time.
 ghost use mathlib.Core.Path.{_≡_};
-ghost use Rattle.float.specs.Signs.{signum};
-ghost use Rattle.vectors.specs.Vectors.{scale, dot, cross};
-ghost use Rattle.lid.specs.Plane.{riseStep, firstAxis};
-ghost use Rattle.lid.specs.Steps.{areaNormalAt, lidNormalFrom, aboutFrom, flatOn, axisAcross};
+ghost use Rattle.lid.specs.Plane.{riseStep};
+ghost use Rattle.lid.specs.Steps.{areaNormalAt, lidNormalFrom};
 use coords::Point;
-use lid::Flat;
 use lid::MIN_AREA;
 use object::Corner;
 use vectors::Vector;
@@ -43,48 +40,4 @@ pub fn lid_normal(area: Vector, rise: Vector) -> Vector
         return n.neg();
     }
     n
-}
-
-// The lid's normal or its reverse, from the vector area of a ring's bases.
-pub fn about(area: Vector, lid: Vector) -> Vector
-    ensures { λ r. ⌜ r ≡ aboutFrom area lid ⌝ }
-{
-    lid.scale(signs::signum(area.dot(lid)))
-}
-
-// The first axis of the lid's plane.
-pub fn first_axis(lid: Vector) -> Vector
-    ensures { λ r. ⌜ r ≡ firstAxis lid ⌝ }
-{
-    let e = axis_across(lid);
-    e.sub(lid.scale(e.dot(lid))).normalize_or(Vector::ZERO)
-}
-
-// The axis of the world that lies far from the lid's normal.
-fn axis_across(lid: Vector) -> Vector
-    ensures { λ r. ⌜ r ≡ axisAcross lid ⌝ }
-{
-    if signs::abs(lid.z) > 0.5 {
-        return Vector {
-            x: 1.0,
-            y: 0.0,
-            z: 0.0,
-        };
-    }
-    Vector {
-        x: 0.0,
-        y: 0.0,
-        z: 1.0,
-    }
-}
-
-// A top on the lid's plane, measured from the first top along both axes.
-pub fn flat_corner(first: Point, e1: Vector, e2: Vector, p: Point) -> Flat
-    ensures { λ r. ⌜ r ≡ flatOn first e1 e2 p ⌝ }
-{
-    let d = p.sub(first);
-    Flat {
-        u: d.dot(e1),
-        v: d.dot(e2),
-    }
 }

@@ -5,9 +5,9 @@ ghost use lib.Seq.{sets};
 ghost use Rattle.scene_mesh.specs.Mesh.{spanNumbers};
 ghost use Rattle.progress.specs.Pass.{spanBy, accountBy};
 use crate::Progress;
-use buffers::put_four;
-use buffers::put_number;
 use face::Tally;
+use numbers::put_four;
+use numbers::put_number;
 use shapes::Drawn;
 
 // The span of an object that came to t, if it has one.

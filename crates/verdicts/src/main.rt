@@ -41,7 +41,7 @@ fn store(vertices: &mut [f32], indices: &mut [u32], k: usize, w: u32) {
         vertices[k] = words::float(w);
         return;
     }
-    buffers::put_number(indices, k - n, w);
+    numbers::put_number(indices, k - n, w);
 }
 
 fn read(fd: i32, count: usize, vertices: &mut [f32], indices: &mut [u32]) {

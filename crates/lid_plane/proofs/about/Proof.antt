@@ -3,7 +3,7 @@ use mathlib.Core.Path.{sym, ap, _∙_}
 use Prim.Native.Nat.{_-_}
 use native.Mathlib.Omega.{arith}
 use Rattle.vectors.specs.declared.Vector.{Vector}
-use Rattle.plane.proofs.PlaneLaws.{about-from}
+use Rattle.axes.proofs.AboutLaws.{about-from}
 use Rattle.lid.specs.Plane.{areaNormal}
 use Rattle.lid.specs.Steps.{aboutFrom}
 use Rattle.fields.specs.Fields.{cornersAt}

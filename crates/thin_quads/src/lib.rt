@@ -1,0 +1,26 @@
+// The thin triangles of a face of four points, counted where nothing is written.
+ghost use mathlib.Core.Path.{_≡_};
+ghost use mathlib.Core.List.{List, [], _∷_};
+ghost use Prim.Native.Nat.{ℕ, _≤_};
+ghost use lib.Ieee.{lt};
+ghost use Rattle.vectors.specs.declared.Vector.{Vector};
+ghost use Rattle.vectors.specs.Vectors.{cross, norm};
+ghost use Rattle.coords.specs.Coords.{diff};
+ghost use Rattle.offering.specs.Triangles.{triangle};
+ghost use Rattle.offering.specs.Offered.{offerAll};
+use coords::Point;
+
+fn is_thin(limit: f32, a: Point, b: Point, c: Point) -> bool
+    ensures { λ r. ⌜ r ≡ lt (norm (cross (diff b a) (diff c a))) limit ⌝ }
+{
+    b.sub(a).cross(c.sub(a)).shorter_than(limit)
+}
+
+// How many triangles of a face of four points are thin, which is all that counts where nothing is written.
+pub fn thin_in_quad(a: Point, b: Point, c: Point, d: Point, limit: f32) -> u32
+    ensures { λ r. ⌜ (r ≤ 2) × ((out : Vector) (base n : ℕ) (is : List ℕ) → r ≡ offerAll limit (a ∷ b ∷ c ∷ d ∷ []) out base n is (triangle 0 1 2 ∷ triangle 0 2 3 ∷ []) .sum .thin) ⌝ }
+{
+    let x = is_thin(limit, a, b, c) as u32;
+    let y = is_thin(limit, a, c, d) as u32;
+    x + y
+}
