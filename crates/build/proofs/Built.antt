@@ -1,5 +1,5 @@
 -- What Build plans by the lengths of the lent buffers, and what it answers and leaves. Assumes nothing.
-use mathlib.Core.Path.{_≡_, refl, sym, ap, _∙_, subst}
+use mathlib.Core.Path.{_≡_, refl, sym, ap, ap₂, _∙_, subst}
 use mathlib.Core.Bool.{Bool, true, false, _||_, cond}
 use mathlib.Core.List.{List}
 use Prim.Native.Nat.{ℕ, _≤_}
@@ -27,11 +27,12 @@ use Rattle.progress.proofs.Pass.Tails.{sets-over}
 use Rattle.scene_mesh.specs.Demand3.{LongEnough}
 use Rattle.scene_mesh.proofs.Demand3.{long-enough}
 use Rattle.most.specs.declared.Most.{Most}
-use Rattle.most.specs.Most.{numbersOf, together, partOfAll, mostCounts}
+use Rattle.most.specs.Most.{numbersOf, together}
 use Rattle.most.proofs.Bounds.{most-enough}
-use Rattle.scene_most.proofs.Sums.{objects-count}
+use Rattle.scene_most.proofs.Counts.{SumOf, parts-counts, measured-counts}
+use Rattle.build.specs.declared.Plan.{Plan}
 use Rattle.build.specs.declared.Plan.the-variants.{Refuse, Write}
-use Rattle.build.specs.Plan.{Fits, PlanHolds}
+use Rattle.build.specs.Plan.{PlanBy, PlanHolds}
 
 -- by the outcomes of the three tests
 abbrev answerBy : Counted → Bool → Bool → Bool → BuiltAnswer
@@ -108,47 +109,45 @@ longer p q = record {
   log = le-trans (q .log) (p .log);
 }
 
-module _ (os : List Object) (b : Buffers) (c : Counted) (e : countsFrom c ≡ countsOf (output minArea os)) where
-  abbrev w : Buffers
-  w = output minArea os
+-- all objects written into buffers with room for them
+built-whole : (os : List Object) (b : Buffers) (c : Counted) → countsFrom c ≡ countsOf (output minArea os) → (b′ : Buffers) → LongEnough (countsOf b) (countsOf (output minArea os)) → b′ ≡ stored (output minArea os) b
+    → builtWith (Complete c) b′ ≡ buildScene minArea (accepted os) b
+unfolding buildScene buildOutput countsOf done
+built-whole os b c e b′ l r =
+    let w = output minArea os in
+    (λ i. record { answer = record { number = 0; object = 0; counts = e i }; buffers = (r ∙ stored-over w b (l .vertices) (l .normals) (l .indices) (l .spans) (l .account) (l .log)) i })
+    ∙ ap (buildOutput w b) (sym (long-enough (countsOf b) (countsOf w) l))
+
+-- ---- the plan by counts
+
+module _ (has : Counts) (n : ℕ) (c : Counted) {needs : Counts} (e : countsFrom c ≡ needs) where
+  pub plan-complete : (c′ : Counted) → Complete c′ ≡ roomFor has c → PlanBy has needs n (Write n)
+  plan-complete c′ q = (refl, subst (LongEnough has) e (enough-room has c c′ q))
 
   -- the tests of `roomFor` are those of `tooShort`
-  number-is : tooShort (countsOf b) (countsOf w) ≡ numberBy (noVertices (countsOf b) c) (noIndices (countsOf b) c) (noRecords (countsOf b) c)
-  unfolding tooShort
-  number-is = ap (λ (n : Counts). tooShort (countsOf b) n) (sym e)
+  pub plan-short : (a : BuiltAnswer) → isComplete a ≡ false → a ≡ roomFor has c → PlanBy has needs n (Refuse a)
+  unfolding roomFor tooShort
+  plan-short a f q = λ w b. short-by w b c a f (noVertices has c) (noIndices has c) (noRecords has c) (sym q) ∙ ap (λ (k : Counts). buildOutput w b (tooShort has k)) e
 
-  built-short : (a : BuiltAnswer) → isComplete a ≡ false → a ≡ roomFor (countsOf b) c → builtWith a b ≡ buildScene minArea (accepted os) b
-  unfolding buildScene roomFor
-  built-short a s q = short-by w b c a s (noVertices (countsOf b) c) (noIndices (countsOf b) c) (noRecords (countsOf b) c) (sym q) ∙ ap (buildOutput w b) (sym number-is)
-
-  -- all objects written into buffers with room for them
-  built-whole : (b′ : Buffers) → LongEnough (countsOf b) (countsOf w) → b′ ≡ stored w b → builtWith (Complete c) b′ ≡ buildScene minArea (accepted os) b
-  unfolding buildScene buildOutput countsOf done
-  built-whole b′ l r =
-      (λ i. record { answer = record { number = 0; object = 0; counts = e i }; buffers = (r ∙ stored-over w b (l .vertices) (l .normals) (l .indices) (l .spans) (l .account) (l .log)) i })
-      ∙ ap (buildOutput w b) (sym (long-enough (countsOf b) (countsOf w) l))
-
--- ---- the plan
+-- ---- the plan for a scene
 
 module _ (s : List ℕ) (has : Counts) where
   pub plan-refused : (f : Refusal) (object : ℕ) → CheckedRefused f object ≡ checkedOf (scene s) → PlanHolds s has (Refuse (Refused f object))
   plan-refused f object h = λ b e. build-refused s b f object h
 
-  module _ (n : ℕ) (h : Accepted n ≡ checkedOf (scene s)) where
+  module _ (n : ℕ) (h : Accepted n ≡ checkedOf (scene s)) {a b : Most} where
     -- with room for both parts, each measured or not
-    pub fits-parts : (others lids : Bool) (a b : Most) → ((os : List Object) → scene s ≡ accepted os → a ≡ partOfAll false others minArea os) → ((os : List Object) → scene s ≡ accepted os → b ≡ partOfAll true lids minArea os)
-        → LongEnough has (numbersOf (together a b) n) → Fits s has
-    unfolding mostCounts
-    fits-parts others lids a b p q l =
-        λ os e. longer (subst (LongEnough has) (λ i. numbersOf (together (p os e i) (q os e i)) (objects-count s n h os e i)) l) (most-enough others lids minArea os)
+    pub plan-bounded : (others lids : Bool) → SumOf s false others a → SumOf s true lids b → {r : Plan} {k : ℕ} → r ≡ Write k → PlanBy has (numbersOf (together a b) n) n r → PlanHolds s has (Write n)
+    plan-bounded others lids p q is d =
+        (h, λ os e. longer (subst (LongEnough has) (parts-counts s n h os e others lids p q) (subst (PlanBy has (numbersOf (together a b) n) n) is d .1)) (most-enough minArea others lids os))
 
-    -- measured
-    module _ (c : Counted) (k : (os : List Object) → scene s ≡ accepted os → countsFrom c ≡ countsOf (output minArea os)) where
-      pub plan-measured : (c′ : Counted) → Complete c′ ≡ roomFor has c → PlanHolds s has (Write n)
-      plan-measured c′ q = (h, λ os e. subst (LongEnough has) (k os e) (enough-room has c c′ q))
-
-      pub plan-short : (a : BuiltAnswer) → isComplete a ≡ false → a ≡ roomFor has c → PlanHolds s has (Refuse a)
-      plan-short a f q = λ b e. build-accepted s b n (builtWith a b) h (λ os r. built-short os b c (k os r) a f (q ∙ ap (λ (x : Counts). roomFor x c) (sym e)))
+    -- with both measured
+    pub plan-measured : SumOf s false true a → SumOf s true true b → (r : Plan) → PlanBy has (numbersOf (together a b) n) n r → PlanHolds s has r
+    unfolding buildScene
+    plan-measured p q (Refuse x) d =
+        λ lent f. build-accepted s lent n (builtWith x lent) h (λ os e. d (output minArea os) lent ∙ ap₂ (λ (x y : Counts). buildOutput (output minArea os) lent (tooShort x y)) (sym f) (measured-counts s n h os e p q))
+    plan-measured p q (Write k) d =
+        (subst (λ (m : ℕ). Accepted m ≡ checkedOf (scene s)) (sym (d .0)) h, λ os e. subst (LongEnough has) (measured-counts s n h os e p q) (d .1))
 
   pub built-planned : (n : ℕ) (limit : Float) (b b′ : Buffers) (c : Counted) → PlanHolds s has (Write n) → countsOf b ≡ has → limit ≡ minArea
       → ((os : List Object) → scene s ≡ accepted os → WroteAll limit os c b b′) → builtWith (Complete c) b′ ≡ build s b

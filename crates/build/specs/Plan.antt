@@ -7,17 +7,18 @@ use Rattle.object.specs.Object.{Object}
 use Rattle.scene.specs.declared.scenes.Checked.the-variants.{Accepted}
 use Rattle.scene.specs.Scene.{scene, accepted}
 use Rattle.scene.specs.Answers.{checkedOf}
-use Rattle.scene_mesh.specs.Operations.{Counts, Buffers, output, countsOf, build}
+use Rattle.scene_mesh.specs.Operations.{Counts, Buffers, output, countsOf, tooShort, buildOutput, build}
 use Rattle.scene_mesh.specs.Demand3.{LongEnough}
 use Rattle.answers.specs.Answers.{builtWith}
 use Rattle.build.specs.declared.Plan.{Plan}
 use Rattle.build.specs.declared.Plan.the-variants.{Refuse, Write}
 
--- each buffer has room for what the objects come to
-abbrev pub Fits : List ℕ → Counts → Type 0
-Fits s has = (os : List Object) → scene s ≡ accepted os → LongEnough has (countsOf (output minArea os))
+-- a refusal is Build's answer wherever so many numbers are to be written into buffers of these lengths; n objects are written only where they fit
+abbrev pub PlanBy : Counts → Counts → ℕ → Plan → Type 0
+PlanBy has needs n (Refuse a) = (w b : Buffers) → builtWith a b ≡ buildOutput w b (tooShort has needs)
+PlanBy has needs n (Write k) = (k ≡ n) × LongEnough has needs
 
--- a refusal is Build's answer to buffers of these lengths; n objects are written only where they fit
+-- the same for the objects of a scene
 abbrev pub PlanHolds : List ℕ → Counts → Plan → Type 0
 PlanHolds s has (Refuse a) = (b : Buffers) → countsOf b ≡ has → builtWith a b ≡ build s b
-PlanHolds s has (Write n) = (Accepted n ≡ checkedOf (scene s)) × Fits s has
+PlanHolds s has (Write n) = (Accepted n ≡ checkedOf (scene s)) × ((os : List Object) → scene s ≡ accepted os → LongEnough has (countsOf (output minArea os)))

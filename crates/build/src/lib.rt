@@ -1,24 +1,21 @@
 // Build: tests the room, by the most that the objects can come to or else measured, and then writes.
 ghost use mathlib.Core.Path.{_≡_};
-ghost use mathlib.Core.Bool.{true};
 ghost use Prim.Native.Nat.{_≤_};
 ghost use Rattle.scene.specs.declared.scenes.Checked.the-variants.{Accepted};
 ghost use Rattle.scene.specs.Scene.{scene};
 ghost use Rattle.scene.specs.Answers.{checkedOf};
 ghost use Rattle.scene_mesh.specs.Operations.{lent, build};
-ghost use Rattle.scene_mesh.specs.Demand3.{LongEnough};
 ghost use Rattle.answers.specs.Answers.{lengthsFrom, builtWith};
 ghost use Rattle.most.specs.Most.{numbersOf, together, Few};
-ghost use Rattle.build.specs.Plan.{Fits, PlanHolds};
+ghost use Rattle.build.specs.Plan.{PlanBy, PlanHolds};
 use answers::BuiltAnswer;
 use answers::Lengths;
 use answers::min_area;
 use answers::room;
 use most::Most;
-use pass::count_objects;
+use most::bound_counts;
 use pass::write_objects;
 use scene::scenes::Checked;
-use scene_most::bound_counts;
 use scene_most::part_of_all;
 
 // What is to be done before a buffer is touched: refuse, or write so many objects.
@@ -27,51 +24,35 @@ pub enum Plan {
     Write(u32),
 }
 
-// Whether buffers of these lengths have room for what both parts come to.
-fn parts_fit(has: Lengths, others: Most, lids: Most, n: u32) -> bool
+// By what both parts of n objects come to.
+fn plan_parts(has: Lengths, others: Most, lids: Most, n: u32) -> Plan
     requires { ⌜ Few others 16777216 65536 × Few lids 16777216 65536 × (n ≤ 65536) ⌝ }
-    ensures { λ r. ⌜ (r ≡ true → LongEnough (lengthsFrom has) (numbersOf (together others lids) n)) ⌝ }
+    ensures { λ r. ⌜ PlanBy (lengthsFrom has) (numbersOf (together others lids) n) n r ⌝ }
 {
     let answer = room(has, bound_counts(others, lids, n));
     if let BuiltAnswer::Complete(_) = answer {
-        return true;
+        return Plan::Write(n);
     }
-    false
+    Plan::Refuse(answer)
 }
 
-// Whether the n objects of an accepted scene surely fit: by the most that they can come to, then
-// with those without lids measured, which takes drawing but no cutting, then with all measured.
-// No object is drawn twice for it.
-fn surely_fit(s: &[u8], n: u32, has: Lengths) -> bool
-    requires { ⌜ Accepted n ≡ checkedOf (scene (now s)) ⌝ }
-    ensures { λ r. ⌜ (r ≡ true → Fits (now (s .entry)) (lengthsFrom has)) ⌝ }
-{
-    let lids = part_of_all(s, n, true, false);
-    let most = part_of_all(s, n, false, false);
-    if parts_fit(has, most, lids, n) {
-        return true;
-    }
-    let others = part_of_all(s, n, false, true);
-    if parts_fit(has, others, lids, n) {
-        return true;
-    }
-    parts_fit(has, others, part_of_all(s, n, true, true), n)
-}
-
-// The n objects of an accepted scene. The last sums of `surely_fit` are exact, so that the count
-// is only reached where Build refuses, and only the refusal is left to be told.
+// The n objects of an accepted scene: by the most that they can come to, then with those without
+// lids measured, which takes drawing but no cutting, then with all measured, which is exact and
+// so tells the refusal too. No object is drawn twice for it.
 fn plan_objects(s: &[u8], n: u32, has: Lengths) -> Plan
     requires { ⌜ Accepted n ≡ checkedOf (scene (now s)) ⌝ }
     ensures { λ r. ⌜ PlanHolds (now (s .entry)) (lengthsFrom has) r ⌝ }
 {
-    if surely_fit(s, n, has) {
+    let lids = part_of_all(s, n, true, false);
+    let most = part_of_all(s, n, false, false);
+    if let Plan::Write(_) = plan_parts(has, most, lids, n) {
         return Plan::Write(n);
     }
-    let measured = room(has, count_objects(s, n));
-    if let BuiltAnswer::Complete(_) = measured {
+    let others = part_of_all(s, n, false, true);
+    if let Plan::Write(_) = plan_parts(has, others, lids, n) {
         return Plan::Write(n);
     }
-    Plan::Refuse(measured)
+    plan_parts(has, others, part_of_all(s, n, true, true), n)
 }
 
 fn plan_scene(s: &[u8], has: Lengths) -> Plan

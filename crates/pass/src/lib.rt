@@ -2,17 +2,14 @@
 // before it, and its span and account are stored.
 ghost use mathlib.Core.Path.{_≡_};
 ghost use mathlib.Core.List.{List};
-ghost use Rattle.float.specs.Number.{minArea};
 ghost use Rattle.object.specs.Object.{Object};
 ghost use Rattle.scene.specs.declared.scenes.Checked.the-variants.{Accepted};
 ghost use Rattle.scene.specs.Scene.{scene, accepted};
 ghost use Rattle.scene.specs.Answers.{checkedOf};
-ghost use Rattle.scene_mesh.specs.Operations.{lent, output, countsOf};
-ghost use Rattle.answers.specs.Answers.{countsFrom};
+ghost use Rattle.scene_mesh.specs.Operations.{lent};
 ghost use Rattle.progress.specs.Pass.{CanAdd, AddedObject};
 ghost use Rattle.progress.specs.Wrote.{WroteAll};
 use answers::Counted;
-use answers::min_area;
 use progress::Progress;
 use progress::advance;
 use progress::count_numbers;
@@ -86,28 +83,4 @@ pub fn write_objects(
         p = object_at(s, limit, p, vs, ns, is, spans, account, log);
     }
     count_numbers(p)
-}
-
-// The n objects of an accepted scene, written to buffers without any room.
-pub fn count_objects(s: &[u8], n: u32) -> Counted
-    requires { ⌜ Accepted n ≡ checkedOf (scene (now s)) ⌝ }
-    ensures { λ r. ⌜ ((os : List Object) → scene (now (s .entry)) ≡ accepted os → countsFrom r ≡ countsOf (output minArea os)) ⌝ }
-{
-    let mut vs = [0.0f32; 0];
-    let mut ns = [0.0f32; 0];
-    let mut is = [0u32; 0];
-    let mut spans = [0u32; 0];
-    let mut account = [0u32; 0];
-    let mut log = [0u32; 0];
-    write_objects(
-        s,
-        n,
-        min_area(),
-        &mut vs,
-        &mut ns,
-        &mut is,
-        &mut spans,
-        &mut account,
-        &mut log,
-    )
 }

@@ -1,15 +1,20 @@
--- How many indices and normals a mesh has, beside its kept triangles and its vertices. Assumes nothing.
+-- How many indices and normals a mesh has, beside its kept triangles and its vertices, and how many numbers each buffer gets. Assumes nothing.
 use mathlib.Core.Path.{_≡_, refl}
-use mathlib.Core.List.{List, [], _∷_}
+use mathlib.Core.List.{List, [], _∷_, map}
 use Prim.Native.Nat.{ℕ, _+_, _*_}
 use native.Mathlib.Omega.{arith}
-use lib.ListN.{length, length-append}
+use lib.ListN.{length, length-append, length-map}
 use lib.Ieee.{Float}
-use Rattle.lists.specs.Loops.{sumOf}
+use Rattle.lists.specs.Loops.{join, sumOf}
+use Rattle.lists.proofs.Lists.{join-size}
+use Rattle.coords.specs.Buffers.{vertexNumbers, normalRecord, normalNumbers}
+use Rattle.coords.proofs.Buffers.{vertices-size}
 use Rattle.object.specs.Object.{Object}
 use Rattle.face.proofs.Draws.{normals-size}
+use Rattle.lid.specs.Log.{entryRecord, logNumbers}
 use Rattle.shapes.specs.Shapes.{facesOf}
-use Rattle.scene_mesh.specs.Mesh.{keptBy, pieceOf, addPiece, meshFrom}
+use Rattle.scene_mesh.specs.Mesh.{keptBy, accountOf, pieceOf, addPiece, meshFrom, meshOf, accountsOf, logsOf, spanRecord, spanNumbers, accountRecord, accountNumbers}
+use Rattle.scene_mesh.specs.Operations.{Counts, output, countsOf}
 use Rattle.scene_mesh.proofs.Demand3.Spans.{piece-size}
 
 module _ (limit : Float) where
@@ -32,3 +37,19 @@ module _ (limit : Float) where
       let p = pieceOf limit v o in
       let m = meshFrom limit (v + length (p .vertices)) (i + length (p .indices)) os in
       omega (arith, length-append (p .normals) (m .normals), length-append (p .vertices) (m .vertices), piece-normals v o, mesh-normals os (v + length (p .vertices)) (i + length (p .indices)))
+
+  pub output-counts : (os : List Object)
+      → let m = meshFrom limit 0 0 os in
+      _≡_ {A = Counts}
+      (record { vertices = 3 * length (m .vertices); normals = 3 * length (m .vertices); indices = 3 * sumOf (λ (o : Object). keptBy limit (o .shape)) os; spans = 5 * length (m .spans); account = 4 * length os; log = 4 * length (logsOf os) })
+      (countsOf (output limit os))
+  unfolding output countsOf meshOf accountsOf normalNumbers spanNumbers accountNumbers logNumbers
+  output-counts os =
+      let m = meshFrom limit 0 0 os in
+      let vertices-are : 3 * length (m .vertices) ≡ length (vertexNumbers (m .vertices)) = omega (arith, vertices-size (m .vertices)) in
+      let normals-are : 3 * length (m .vertices) ≡ length (join normalRecord (m .normals)) = omega (arith, join-size normalRecord 3 (λ a. refl) (m .normals), mesh-normals os 0 0) in
+      let indices-are : 3 * sumOf (λ (o : Object). keptBy limit (o .shape)) os ≡ length (m .indices) = omega (arith, mesh-indices os 0 0) in
+      let spans-are : 5 * length (m .spans) ≡ length (join spanRecord (m .spans)) = omega (arith, join-size spanRecord 5 (λ a. refl) (m .spans)) in
+      let account-is : 4 * length os ≡ length (join accountRecord (map (accountOf limit) os)) = omega (arith, join-size accountRecord 4 (λ a. refl) (map (accountOf limit) os), length-map os (accountOf limit)) in
+      let log-is : 4 * length (logsOf os) ≡ length (join entryRecord (logsOf os)) = omega (arith, join-size entryRecord 4 (λ a. refl) (logsOf os)) in
+      λ i. record { vertices = vertices-are i; normals = normals-are i; indices = indices-are i; spans = spans-are i; account = account-is i; log = log-is i }

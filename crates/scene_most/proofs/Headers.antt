@@ -3,7 +3,6 @@ use mathlib.Core.Path.{_≡_, sym, ap, _∙_, subst}
 use mathlib.Core.Bool.{Bool, true, false}
 use mathlib.Core.List.{List}
 use Prim.Native.Nat.{ℕ, _+_, _*_, _≤_, zero-le}
-use native.Mathlib.Nat.{le-trans}
 use native.Mathlib.Omega.{arith}
 use lib.Dec.{eqb}
 use lib.Ieee.{lt}
@@ -18,8 +17,9 @@ use Rattle.scene.proofs.Parts.{corners-length, holes-size, holes-length, counts
 use Rattle.lid.proofs.Facts.{total}
 use Rattle.shapes.proofs.Sizes.{sum-lengths}
 use Rattle.most.specs.declared.Most.{Most}
-use Rattle.most.specs.Most.{ofShape, solidMost, outlineMost, sweepMost, mostOf, exactOf, inPart, partOf, Few}
+use Rattle.most.specs.Most.{ofShape, solidMost, outlineMost, sweepMost, mostOf, inPart, partOf, Few}
 use Rattle.most.proofs.Bounds.{most-within}
+use Rattle.most.proofs.Few.{few-less}
 
 module _ (s : List ℕ) (i : ℕ) where
   pub most-outline : (closed : Bool) (outer holes : ℕ) → outlineMost closed outer (total (countsAt s holes (i + 4))) holes ≡ mostOf (shapeOf s i (Outline closed outer holes))
@@ -61,14 +61,10 @@ few-body s i (Outline closed outer holes) =
 few-body s i (Sweep round n) = subst (λ (m : Most). Few m (5 + bodySize s i (Sweep round n)) 1) (most-sweep s i round n) (few-sweep round n)
 
 pub few-bound : (lids exact : Bool) (s : List ℕ) (i : ℕ) (body : Body) → Few (partOf lids exact minArea (shapeOf s i body)) (5 + bodySize s i body) 1
-unfolding partOf exactOf
+unfolding partOf
 few-bound lids exact s i body =
     let sh = shapeOf s i body in
     let f = few-body s i body in
-    let w = most-within minArea sh in
     either (λ (m : Most). Few m (5 + bodySize s i body) 1) (inPart lids sh)
-    (
-    either (λ (m : Most). Few m (5 + bodySize s i body) 1) exact
-    (few-shape _ _ _ _ (le-trans (w .vertices 0) (f .vertices)) (le-trans (w .triangles) (f .triangles)) (le-trans (w .entries) (f .entries))) f
-    )
+    (either (λ (m : Most). Few m (5 + bodySize s i body) 1) exact (few-less (most-within minArea sh) f) f)
     (record { vertices = zero-le; triangles = zero-le; spans = zero-le; entries = zero-le })

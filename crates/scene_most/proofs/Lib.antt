@@ -1,3 +1,4 @@
 pub mod Headers
 pub mod Sums
 pub mod Exact
+pub mod Counts

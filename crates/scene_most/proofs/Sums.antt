@@ -17,7 +17,8 @@ use Rattle.scene.proofs.Walk.{Walking, walk-object, walk-next, walk-limits, wal
 use Rattle.shapes.specs.Drawn.{CanDraw}
 use Rattle.most.specs.declared.Most.{Most}
 use Rattle.most.specs.Most.{nothing, together, partOf, partOfAll, Few}
-use Rattle.most.proofs.Bounds.{together-none, none-together}
+use Rattle.most.proofs.Exact.{together-none, none-together}
+use Rattle.most.proofs.Few.{few-among, few-together}
 use Rattle.scene_most.proofs.Headers.{few-bound}
 
 together-more : (a b c : Most) → together (together a b) c ≡ together a (together b c)
@@ -27,19 +28,6 @@ together-more a b c = λ i. record {
   spans = add-assoc (a .spans) (b .spans) (c .spans) i;
   entries = add-assoc (a .entries) (b .entries) (c .entries) i;
 }
-
-pub objects-count : (s : List ℕ) (n : ℕ) → Accepted n ≡ checkedOf (scene s) → (os : List Object) → scene s ≡ accepted os → n ≡ length os
-objects-count s n h os e = sym (checked-accepted s n h .size) ∙ ap (λ (t : Scene). length (objectsOf t)) e
-
-pub few-both : {a b m : Most} → Few a 16777216 65536 → Few b 16777216 65536 → m ≡ together a b → Few m 33554432 131072
-few-both f g e =
-    subst (λ (m : Most). Few m 33554432 131072) (sym e)
-    (record {
-      vertices = omega (arith, f .vertices, g .vertices);
-      triangles = omega (arith, f .triangles, g .triangles);
-      spans = omega (arith, f .spans, g .spans);
-      entries = omega (arith, f .entries, g .entries);
-    })
 
 -- k records lie before place `at`, and come to m in this part
 pub record Sums (lids exact : Bool) (s : List ℕ) (n : ℕ) (m : Most) (at k : ℕ) : Type 0 where
@@ -94,27 +82,10 @@ module _ {lids exact : Bool} {s : List ℕ} {n : ℕ} {m : Most} {at k : ℕ} (w
       module _ {x : Most} (q : x ≡ bound h) where
         few-more : Few (together m x) (at + h .size) (k + 1)
         few-more =
-            let f : Few x (h .size) 1 = subst (λ (y : Most). Few y (h .size) 1) (sym q) (subst (λ (y : Header). Few (bound y) (y .size) 1) (sym e) few-next) in
-            let fv = f .vertices in
-            let ft = f .triangles in
-            let fs = f .spans in
-            let fe = f .entries in
-            let v = w .few .vertices in
-            let t = w .few .triangles in
-            let p = w .few .spans in
-            let r = w .few .entries in
-            record { vertices = omega arith; triangles = omega arith; spans = omega arith; entries = omega arith }
+            few-together (w .few) (subst (λ (y : Most). Few y (h .size) 1) (sym q) (subst (λ (y : Header). Few (bound y) (y .size) 1) (sym e) few-next))
 
         pub can-sum : Few (together m x) 33554432 131072
-        can-sum =
-            let f = few-more in
-            let v = f .vertices in
-            let t = f .triangles in
-            let p = f .spans in
-            let r = f .entries in
-            let i = place-fits in
-            let few = w .known .few in
-            record { vertices = omega arith; triangles = omega arith; spans = omega arith; entries = omega arith }
+        can-sum = let i = place-fits in let few = w .known .few in few-among few-more (omega arith) (omega arith)
 
         pub sums-next : {m′ : Most} → m′ ≡ together m x → Sums lids exact s n m′ (at + h .size) (k + 1)
         unfolding partOfAll
@@ -144,12 +115,8 @@ module _ {lids exact : Bool} {s : List ℕ} {n : ℕ} {m : Most} {at k : ℕ} (w
       let short = w .known .short in
       let place = w .place in
       let count = w .count in
-      let v = w .few .vertices in
-      let t = w .few .triangles in
-      let p = w .few .spans in
-      let r = w .few .entries in
       let inside = trailer-inside s n in
       let all : length os ≤ k = omega arith in (
-        record { vertices = omega arith; triangles = omega arith; spans = omega arith; entries = omega arith },
+        few-among (w .few) (omega arith) (omega arith),
         λ os′ e. sym (together-none m) ∙ ap (λ (r : List Object). together m (sum r)) (sym (drop-of-length-le os all)) ∙ w .same ∙ ap (λ (t : Scene). sum (objectsOf t)) e,
       )

@@ -11,12 +11,11 @@ ghost use Rattle.scene.specs.Scene.{scene, accepted};
 ghost use Rattle.scene.specs.Answers.{checkedOf};
 ghost use Rattle.scene.specs.Headers.{shapeOf, Limits};
 ghost use Rattle.shapes.specs.Drawn.{CanDraw};
-ghost use Rattle.answers.specs.Answers.{countsFrom};
-ghost use Rattle.most.specs.Most.{mostOf, exactOf, hasLid, inPart, together, partOf, partOfAll, numbersOf, Few};
-use answers::Counted;
+ghost use Rattle.most.specs.Most.{mostOf, exactOf, hasLid, inPart, partOf, partOfAll, Few};
 use answers::min_area;
 use headers::header_at;
 use most::Most;
+use most::add;
 use most::of_shape;
 use most::outline_most;
 use most::solid_most;
@@ -105,18 +104,6 @@ fn bound_at(s: &[u8], i: usize, body: Body, lids: bool, exact: bool) -> Most
     most_at(s, i, body)
 }
 
-fn add(a: Most, b: Most) -> Most
-    requires { ⌜ Few (together a b) 33554432 131072 ⌝ }
-    ensures { λ r. ⌜ r ≡ together a b ⌝ }
-{
-    Most {
-        vertices: a.vertices + b.vertices,
-        triangles: a.triangles + b.triangles,
-        spans: a.spans + b.spans,
-        entries: a.entries + b.entries,
-    }
-}
-
 // Those of the n objects that have lids, or the others: measured, or the most.
 pub fn part_of_all(s: &[u8], n: u32, lids: bool, exact: bool) -> Most
     requires { ⌜ Accepted n ≡ checkedOf (scene (now s)) ⌝ }
@@ -138,20 +125,4 @@ pub fn part_of_all(s: &[u8], n: u32, lids: bool, exact: bool) -> Most
         k = k + 1;
     }
     most
-}
-
-// The most numbers that each buffer can get from n objects, by the two parts of them.
-pub fn bound_counts(others: Most, lids: Most, n: u32) -> Counted
-    requires { ⌜ Few others 16777216 65536 × Few lids 16777216 65536 × (n ≤ 65536) ⌝ }
-    ensures { λ r. ⌜ countsFrom r ≡ numbersOf (together others lids) n ⌝ }
-{
-    let m = add(others, lids);
-    Counted {
-        vertices: 3 * m.vertices,
-        normals: 3 * m.vertices,
-        indices: 3 * m.triangles,
-        spans: 5 * m.spans,
-        account: 4 * n,
-        log: 4 * m.entries,
-    }
 }

@@ -1,9 +1,7 @@
 -- `build::build` meets its contract. Assumes nothing.
-use mathlib.Core.Path.{refl, sym, subst}
+use mathlib.Core.Path.{refl}
 use borrow.Author.Needs.{needs}
-use Rattle.scene_mesh.specs.Operations.{Buffers, Counts, lent, countsOf}
-use Rattle.build.specs.declared.Plan.{Plan}
-use Rattle.build.specs.Plan.{PlanHolds}
+use Rattle.scene_mesh.specs.Operations.{lent, countsOf}
 use Rattle.build.proofs.Built.{built-planned}
 use Rattle.build.proofs.build.Statement.{statement}
 use Rattle.build.proofs.build.Tie as tie

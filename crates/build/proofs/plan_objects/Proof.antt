@@ -1,38 +1,32 @@
 -- `build::plan_objects` meets its contract. Assumes nothing.
-use mathlib.Core.Path.{_≡_, refl, sym, _∙_}
-use mathlib.Core.Bool.{false}
-use mathlib.Core.List.{[], _∷_}
-use mathlib.Core.Logic.{⊎-elim}
-use native.Mathlib.Omega.{arith}
-use types.Run.{OneOf}
-use denote.Enum.Declared.{tagOf}
+use mathlib.Core.Bool.{true, false}
 use borrow.Author.Needs.{needs}
-use Rattle.answers.proofs.BuiltAnswer.{the-type}
-use Rattle.answers.specs.declared.BuiltAnswer.{BuiltAnswer}
-use Rattle.answers.specs.declared.BuiltAnswer.the-variants.{Refused, ShortVertices, ShortIndices, ShortRecords, Complete}
-use Rattle.build.proofs.Built.{isComplete, plan-measured, plan-short}
+use Rattle.scene.proofs.Walk.{checked-accepted}
+use Rattle.answers.specs.Answers.{lengthsFrom}
+use Rattle.build.proofs.Built.{plan-bounded, plan-measured}
 use Rattle.build.proofs.plan_objects.Statement.{statement}
 use Rattle.build.proofs.plan_objects.Tie as tie
 
--- what is left after a test for Complete
-not-complete : (a : BuiltAnswer) → OneOf (0 ∷ 1 ∷ 2 ∷ 3 ∷ []) (tagOf the-type a) → isComplete a ≡ false
-not-complete (Refused f object) h = refl
-not-complete ShortVertices h = refl
-not-complete ShortIndices h = refl
-not-complete ShortRecords h = refl
-not-complete (Complete c) h = absurd (none h)
-  where
-    none : OneOf (0 ∷ 1 ∷ 2 ∷ 3 ∷ []) 4 → ⊥
-    none q = ⊎-elim (λ e. omega arith) (⊎-elim (λ e. omega arith) (⊎-elim (λ e. omega arith) (λ e. omega arith))) q
+plan-parts-requires : tie.Need-plan-parts-requires
+plan-parts-requires c κs = (c .part-of-all2 .ensures .0, c .before .part-of-all .ensures .0, checked-accepted _ _ (c .before .before .before .pre) .few)
 
 returns : tie.Need-returns
-returns c = (c .before .before .before .pre, c .before .surely-fit .ensures (c .if1 .taken))
+returns c = plan-bounded _ _ _ (c .before .before .before .before .before .before .pre) false false (c .before .before .before .part-of-all2 .ensures .1) (c .before .before .before .before .part-of-all .ensures .1) (c .enum-told .given .1) (c .before .before .plan-parts .ensures)
+
+plan-parts-requires-2 : tie.Need-plan-parts-requires-2
+plan-parts-requires-2 c κs = (c .part-of-all3 .ensures .0, c .before .before .before .before .before .part-of-all .ensures .0, checked-accepted _ _ (c .before .before .before .before .before .before .before .pre) .few)
 
 returns-2 : tie.Need-returns-2
-returns-2 c = plan-measured _ _ _ (c .before .before .before .before .before .before .before .pre) _ (c .before .before .before .count-objects .ensures) _ (sym (c .enum-told .given .1) ∙ c .before .before .room .ensures)
+returns-2 c = plan-bounded _ _ _ (c .before .before .before .before .before .before .before .before .before .before .pre) true false (c .before .before .before .part-of-all3 .ensures .1) (c .before .before .before .before .before .before .before .before .part-of-all .ensures .1) (c .enum-told3 .given .1) (c .before .before .plan-parts2 .ensures)
+
+plan-parts-requires-3 : tie.Need-plan-parts-requires-3
+plan-parts-requires-3 c κs = (c .before .before .before .before .part-of-all3 .ensures .0, c .part-of-all4 .ensures .0, checked-accepted _ _ (c .before .before .before .before .before .before .before .before .before .before .before .pre) .few)
 
 returns-3 : tie.Need-returns-3
-returns-3 c = plan-short _ _ _ (c .before .before .before .before .before .before .pre) _ (c .before .before .count-objects .ensures) (c .before .room .result) (not-complete (c .before .room .result) (c .match .keys2)) (c .before .room .ensures)
+returns-3 c = let c₁ = c .before .before .before .before .before .before .before .before .before .before .before .before in plan-measured _ (lengthsFrom (c₁ .args .has)) _ (c₁ .pre) (c .before .before .before .before .before .part-of-all3 .ensures .1) (c .before .part-of-all4 .ensures .1) (c .plan-parts3 .result) (c .plan-parts3 .ensures)
 
 pub plan-objects-spec : {M : Type 1} → statement M
-plan-objects-spec = tie.close (tie.spec (λ c κs. c .before .pre) returns (λ c κs. c .before .before .before .pre) (λ c κs. tt) (λ c. search needs) returns-2 returns-3)
+plan-objects-spec =
+    tie.close
+    (tie.spec (λ c κs. search needs) (λ c κs. search needs) plan-parts-requires (λ c. search needs) returns (λ c. search needs) (λ c κs. search needs) plan-parts-requires-2
+    (λ c. search needs) returns-2 (λ c. search needs) (λ c κs. search needs) plan-parts-requires-3 returns-3)

@@ -1,17 +1,15 @@
 -- Objects added one behind the other are all of them added; what they count to. Assumes nothing.
-use mathlib.Core.Path.{_≡_, refl, ap, _∙_, subst}
-use mathlib.Core.List.{List, [], _∷_, _++_, map}
+use mathlib.Core.Path.{_≡_, refl, ap, _∙_}
+use mathlib.Core.List.{List, [], _∷_, _++_}
 use Prim.Native.Nat.{ℕ, suc, _+_, _*_, _<_}
-use native.Mathlib.Nat.{add-zero, add-assoc}
+use native.Mathlib.Nat.{zero-add, add-zero, add-assoc}
 use native.Mathlib.Omega.{arith}
-use lib.ListN.{length, length-append, length-map}
+use lib.ListN.{length, length-append}
 use lib.Seq.{sets, length-sets}
 use lib.Ieee.{Float}
 use Rattle.lists.specs.Loops.{join, sumOf}
-use Rattle.lists.proofs.Lists.{join-size}
 use Rattle.lists.proofs.Stores.{sets-append, records-behind}
 use Rattle.coords.specs.Buffers.{vertexRecord, vertexNumbers, normalRecord, normalNumbers}
-use Rattle.coords.proofs.Buffers.{vertices-size}
 use Rattle.object.specs.Object.{Object}
 use Rattle.lid.specs.Log.{entryRecord, logNumbers}
 use Rattle.shapes.specs.Shapes.{logOf}
@@ -20,10 +18,9 @@ use Rattle.scene_mesh.specs.Mesh.{Mesh, keptBy, accountOf, pieceOf, spanOf, add
 use Rattle.scene_mesh.specs.Operations.{Buffers, lent, output, countsOf}
 use Rattle.progress.specs.Pass.{Pass, passOf, begun, withObject, withObjects, AddedAll}
 use Rattle.progress.specs.Wrote.{countedBy, stored, WroteAll}
-use Rattle.answers.specs.declared.Counted.{Counted}
 use Rattle.answers.specs.Answers.{countsFrom}
 use Rattle.scene_mesh.proofs.Demand3.Spans.{piece-size}
-use Rattle.scene_mesh.proofs.MeshSizes.{piece-normals, mesh-indices, mesh-normals}
+use Rattle.scene_mesh.proofs.MeshSizes.{piece-normals, output-counts}
 
 module _ (limit : Float) where
   -- ---- one after the other
@@ -130,21 +127,15 @@ module _ (limit : Float) where
 
   module _ (os : List Object) (p : Progress) (b b′ : Buffers) (e : passOf p b′ ≡ withObjects limit os (begun b)) where
     counts-are : countsFrom (countedBy p) ≡ countsOf (output limit os)
-    unfolding withObjects output countsOf meshOf accountsOf normalNumbers spanNumbers accountNumbers logNumbers
+    unfolding withObjects
     counts-are =
         let m = meshFrom limit 0 0 os in
-        let v : p .vertices ≡ 0 + length (m .vertices) = ap (λ (st : Pass). st .vertices) e in
-        let k : p .kept ≡ 0 + sumOf (λ (o : Object). keptBy limit (o .shape)) os = ap (λ (st : Pass). st .kept) e in
-        let s : p .spans ≡ 0 + length (m .spans) = ap (λ (st : Pass). st .spans) e in
-        let n : p .objects ≡ 0 + length os = ap (λ (st : Pass). st .objects) e in
-        let l : p .entries ≡ 0 + length (logsOf os) = ap (λ (st : Pass). st .entries) e in
-        let vertices-are : 3 * p .vertices ≡ length (vertexNumbers (m .vertices)) = omega (arith, vertices-size (m .vertices)) in
-        let normals-are : 3 * p .vertices ≡ length (join normalRecord (m .normals)) = omega (arith, join-size normalRecord 3 (λ a. refl) (m .normals), mesh-normals limit os 0 0) in
-        let indices-are : 3 * p .kept ≡ length (m .indices) = omega (arith, mesh-indices limit os 0 0) in
-        let spans-are : 5 * p .spans ≡ length (join spanRecord (m .spans)) = omega (arith, join-size spanRecord 5 (λ a. refl) (m .spans)) in
-        let account-is : 4 * p .objects ≡ length (join accountRecord (map (accountOf limit) os)) = omega (arith, join-size accountRecord 4 (λ a. refl) (map (accountOf limit) os), length-map os (accountOf limit)) in
-        let log-is : 4 * p .entries ≡ length (join entryRecord (logsOf os)) = omega (arith, join-size entryRecord 4 (λ a. refl) (logsOf os)) in
-        λ i. record { vertices = vertices-are i; normals = normals-are i; indices = indices-are i; spans = spans-are i; account = account-is i; log = log-is i }
+        let v : p .vertices ≡ length (m .vertices) = ap (λ (st : Pass). st .vertices) e ∙ zero-add _ in
+        let k : p .kept ≡ sumOf (λ (o : Object). keptBy limit (o .shape)) os = ap (λ (st : Pass). st .kept) e ∙ zero-add _ in
+        let s : p .spans ≡ length (m .spans) = ap (λ (st : Pass). st .spans) e ∙ zero-add _ in
+        let n : p .objects ≡ length os = ap (λ (st : Pass). st .objects) e ∙ zero-add _ in
+        let l : p .entries ≡ length (logsOf os) = ap (λ (st : Pass). st .entries) e ∙ zero-add _ in
+        (λ i. record { vertices = 3 * v i; normals = 3 * v i; indices = 3 * k i; spans = 5 * s i; account = 4 * n i; log = 4 * l i }) ∙ output-counts limit os
 
     pub wrote-all : WroteAll limit os (countedBy p) b b′
     unfolding withObjects stored output meshOf
@@ -161,7 +152,3 @@ fits a =
     let i = a .place in
     let o = a .objects in
     (omega arith, omega arith, omega arith, omega arith, omega arith)
-
--- what was written at the limit l is what is written at m
-pub counts-at : {l m : Float} {os : List Object} {c : Counted} {b b′ : Buffers} → l ≡ m → WroteAll l os c b b′ → countsFrom c ≡ countsOf (output m os)
-counts-at {l} {m} {os} {c} e w = subst (λ (x : Float). countsFrom c ≡ countsOf (output x os)) e (w .counts)

@@ -1,0 +1,29 @@
+-- Sums that fit the program's numbers. Assumes nothing.
+use Prim.Native.Nat.{ℕ, _+_, _≤_}
+use native.Mathlib.Nat.{le-trans}
+use native.Mathlib.Omega.{arith}
+use Rattle.most.specs.declared.Most.{Most}
+use Rattle.most.specs.Most.{together, Few}
+use Rattle.most.proofs.Bounds.{AtMost}
+
+pub few-less : {a b : Most} {bytes n : ℕ} → AtMost a b → Few b bytes n → Few a bytes n
+few-less l f =
+    record { vertices = le-trans (l .vertices) (f .vertices); triangles = le-trans (l .triangles) (f .triangles); spans = le-trans (l .spans) (f .spans); entries = le-trans (l .entries) (f .entries) }
+
+pub few-among : {m : Most} {p q n k : ℕ} → Few m p n → p ≤ q → n ≤ k → Few m q k
+few-among f i j =
+    record {
+      vertices = omega (arith, f .vertices);
+      triangles = omega (arith, f .triangles);
+      spans = omega (arith, f .spans);
+      entries = omega (arith, f .entries);
+    }
+
+pub few-together : {a b : Most} {p q n k : ℕ} → Few a p n → Few b q k → Few (together a b) (p + q) (n + k)
+few-together f g =
+    record {
+      vertices = omega (arith, f .vertices, g .vertices);
+      triangles = omega (arith, f .triangles, g .triangles);
+      spans = omega (arith, f .spans, g .spans);
+      entries = omega (arith, f .entries, g .entries);
+    }
