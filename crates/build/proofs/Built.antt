@@ -21,7 +21,7 @@ use Rattle.answers.specs.declared.BuiltAnswer.the-variants.{Refused, ShortVerti
 use Rattle.scene_mesh.specs.Operations.{Counts, Buffers, output, countsOf, done, tooShort, overlay, buildOutput, buildScene, build}
 use Rattle.answers.specs.Answers.{countsFrom, builtWith, roomFor}
 use Rattle.answers.proofs.Calls.{build-refused, build-accepted}
-use Rattle.answers.proofs.Rooms.{noVertices, noIndices, noRecords}
+use Rattle.room.proofs.Rooms.{noVertices, noIndices, noRecords}
 use Rattle.progress.specs.Wrote.{stored, WroteAll}
 use Rattle.progress.proofs.Pass.Tails.{sets-over}
 use Rattle.scene_mesh.specs.Demand3.{LongEnough}

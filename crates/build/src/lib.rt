@@ -11,10 +11,10 @@ ghost use Rattle.build.specs.Plan.{PlanBy, PlanHolds};
 use answers::BuiltAnswer;
 use answers::Lengths;
 use answers::min_area;
-use answers::room;
 use most::Most;
-use most::bound_counts;
 use pass::write_objects;
+use room::bound_counts;
+use room::room;
 use scene::scenes::Checked;
 use scene_most::part_of_all;
 

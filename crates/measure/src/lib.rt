@@ -3,7 +3,7 @@ ghost use mathlib.Core.Path.{_≡_};
 ghost use Rattle.scene_mesh.specs.Operations.{measure};
 ghost use Rattle.answers.specs.Answers.{measuredAnswer};
 use answers::Measured;
-use most::bound_counts;
+use room::bound_counts;
 use scene::scenes::Checked;
 use scene_most::part_of_all;
 

@@ -1,13 +1,10 @@
-// The most that one object can come to, told by the header of its record alone, and the numbers
-// that objects take in each buffer.
+// The most that one object can come to, told by the header of its record alone.
 ghost use mathlib.Core.Path.{_≡_};
 ghost use mathlib.Core.Bool.{cond};
 ghost use Prim.Native.Nat.{_+_, _-_, _≤_};
 ghost use lib.Ieee.{lt};
 ghost use Rattle.float.specs.Number.{zerof};
-ghost use Rattle.answers.specs.Answers.{countsFrom};
-ghost use Rattle.most.specs.Most.{ofShape, solidMost, outlineMost, sweepMost, together, numbersOf, Few};
-use answers::Counted;
+ghost use Rattle.most.specs.Most.{ofShape, solidMost, outlineMost, sweepMost};
 use object::Extent;
 
 // The most vertices, triangles, spans and log entries.
@@ -89,32 +86,4 @@ pub fn sweep_most(round: bool, sections: u32) -> Most
         return of_shape(less(64 * sections, 32), less(32 * sections, 4), 0);
     }
     of_shape(less(16 * sections, 8), less(8 * sections, 4), 0)
-}
-
-pub fn add(a: Most, b: Most) -> Most
-    requires { ⌜ Few (together a b) 33554432 131072 ⌝ }
-    ensures { λ r. ⌜ r ≡ together a b ⌝ }
-{
-    Most {
-        vertices: a.vertices + b.vertices,
-        triangles: a.triangles + b.triangles,
-        spans: a.spans + b.spans,
-        entries: a.entries + b.entries,
-    }
-}
-
-// The numbers that n objects take in each buffer, by what the two parts of them come to.
-pub fn bound_counts(others: Most, lids: Most, n: u32) -> Counted
-    requires { ⌜ Few others 16777216 65536 × Few lids 16777216 65536 × (n ≤ 65536) ⌝ }
-    ensures { λ r. ⌜ countsFrom r ≡ numbersOf (together others lids) n ⌝ }
-{
-    let m = add(others, lids);
-    Counted {
-        vertices: 3 * m.vertices,
-        normals: 3 * m.vertices,
-        indices: 3 * m.triangles,
-        spans: 5 * m.spans,
-        account: 4 * n,
-        log: 4 * m.entries,
-    }
 }

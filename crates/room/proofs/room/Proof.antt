@@ -1,7 +1,7 @@
--- `answers::room` meets its contract. Assumes nothing.
+-- `room::room` meets its contract. Assumes nothing.
 use Rattle.answers.specs.Answers.{roomFor}
-use Rattle.answers.proofs.room.Statement.{statement}
-use Rattle.answers.proofs.room.Tie as tie
+use Rattle.room.proofs.room.Statement.{statement}
+use Rattle.room.proofs.room.Tie as tie
 
 returns : tie.Need-returns
 unfolding roomFor

@@ -1,0 +1,49 @@
+// The room that objects need in the buffers, and whether the buffers have it.
+ghost use mathlib.Core.Path.{_≡_};
+ghost use Prim.Native.Nat.{_≤_};
+ghost use lib.Dec.{ltb};
+ghost use Rattle.answers.specs.Answers.{countsFrom, lengthsFrom, roomFor};
+ghost use Rattle.most.specs.Most.{together, numbersOf, Few};
+use answers::BuiltAnswer;
+use answers::Counted;
+use answers::Lengths;
+use most::Most;
+
+// The numbers that n objects take in each buffer, by what the two parts of them come to.
+pub fn bound_counts(others: Most, lids: Most, n: u32) -> Counted
+    requires { ⌜ Few others 16777216 65536 × Few lids 16777216 65536 × (n ≤ 65536) ⌝ }
+    ensures { λ r. ⌜ countsFrom r ≡ numbersOf (together others lids) n ⌝ }
+{
+    let vertices = others.vertices + lids.vertices;
+    Counted {
+        vertices: 3 * vertices,
+        normals: 3 * vertices,
+        indices: 3 * (others.triangles + lids.triangles),
+        spans: 5 * (others.spans + lids.spans),
+        account: 4 * n,
+        log: 4 * (others.entries + lids.entries),
+    }
+}
+
+// Whether a buffer that holds `has` numbers is too short for n.
+fn short(has: usize, n: u32) -> bool
+    ensures { λ r. ⌜ r ≡ ltb has n ⌝ }
+{
+    has < n as usize
+}
+
+// Whether buffers of these lengths have room.
+pub fn room(has: Lengths, c: Counted) -> BuiltAnswer
+    ensures { λ r. ⌜ r ≡ roomFor (lengthsFrom has) c ⌝ }
+{
+    if short(has.vertices, c.vertices) | short(has.normals, c.normals) {
+        return BuiltAnswer::ShortVertices;
+    }
+    if short(has.indices, c.indices) {
+        return BuiltAnswer::ShortIndices;
+    }
+    if short(has.spans, c.spans) | short(has.account, c.account) | short(has.log, c.log) {
+        return BuiltAnswer::ShortRecords;
+    }
+    BuiltAnswer::Complete(c)
+}
