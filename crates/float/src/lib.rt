@@ -1,1 +1,1 @@
-// Numbers and their rounding: see specs/. The crates `signs` and `roots` have the code.
+// Numbers and their rounding: see specs/. The crates `signs`, `thin`, `roots` and `narrowing` have the code.

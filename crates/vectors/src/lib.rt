@@ -95,7 +95,7 @@ impl Vector {
     pub fn shorter_than(self, limit: f32) -> bool
         ensures { λ r. ⌜ r ≡ lt (norm self) limit ⌝ }
     {
-        signs::shorter(self.dot(self), signs::thin_bound(limit))
+        thin::shorter(self.dot(self), thin::thin_bound(limit))
     }
 
     // At unit length, or fallback where the length is zero or not finite.

@@ -1,7 +1,7 @@
--- `signs::shorter` meets its contract: widening changes no value. Assumes nothing.
+-- `thin::shorter` meets its contract: widening changes no value. Assumes nothing.
 use borrow.Author.Needs.{needs}
-use Rattle.signs.proofs.shorter.Statement.{statement}
-use Rattle.signs.proofs.shorter.Tie as tie
+use Rattle.thin.proofs.shorter.Statement.{statement}
+use Rattle.thin.proofs.shorter.Tie as tie
 
 f32-to-f64-with-nan-requires : tie.Need-f32-to-f64-with-nan-requires
 f32-to-f64-with-nan-requires c κs = search needs

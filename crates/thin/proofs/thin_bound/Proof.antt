@@ -1,4 +1,4 @@
--- `signs::thin_bound` meets its contract. A limit above zero has a pattern from 1 to the infinity's, so nothing wraps, and the middle is no NaN. Assumes nothing.
+-- `thin::thin_bound` meets its contract. A limit above zero has a pattern from 1 to the infinity's, so nothing wraps, and the middle is no NaN. Assumes nothing.
 use mathlib.Core.Path.{sym, _∙_, subst}
 use Prim.Native.Nat.{_+_, _-_, _*_, _≤_, _<_}
 use native.Mathlib.Omega.{arith}
@@ -7,8 +7,8 @@ use lib.Ieee.{binary32, binary64, fits, toBits}
 use Rattle.float.specs.Thin.{middle}
 use Rattle.float.proofs.Rounding.{no-nan-bits}
 use Rattle.float.proofs.Thin.{above-bits, above-no-nan, bound-above, bound-low, naughts}
-use Rattle.signs.proofs.thin_bound.Statement.{statement}
-use Rattle.signs.proofs.thin_bound.Tie as tie
+use Rattle.thin.proofs.thin_bound.Statement.{statement}
+use Rattle.thin.proofs.thin_bound.Tie as tie
 
 pattern : (c : tie.Then1) → (0 < toBits binary32 (c .before .args .limit)) × (toBits binary32 (c .before .args .limit) ≤ 0x7f80_0000)
 pattern c = above-bits (c .before .args .limit) (subst T (sym (c .before .good .0 .1)) tt) (c .if1 .taken)
