@@ -4,7 +4,7 @@ use mathlib.Core.Bool.{true}
 use Rattle.lists.specs.Loops.{every}
 use Rattle.examples.specs.Examples.{agrees}
 use Rattle.examples.proofs.Examples.{compared}
-use Rattle.computed.specs.Stored.{lists, outlines, solids, sweeps}
+use Rattle.computed.specs.Stored.{lists, outlines}
 
 pub lists-agree : every agrees lists ≡ true
 unfolding compared lists
@@ -13,11 +13,3 @@ lists-agree = refl
 pub outlines-agree : every agrees outlines ≡ true
 unfolding compared outlines
 outlines-agree = refl
-
-pub solids-agree : every agrees solids ≡ true
-unfolding compared solids
-solids-agree = refl
-
-pub sweeps-agree : every agrees sweeps ≡ true
-unfolding compared sweeps
-sweeps-agree = refl

@@ -1,0 +1,1 @@
+// Stored solids and sweeps that are built, computed on the definitions: see specs/ and proofs/.
