@@ -17,10 +17,10 @@ use lid::Ray;
 use lid::RingPlace;
 use lid::Seen;
 use lists::Found;
-use places::corners_at;
-use places::number_at;
 use rays::first_hit;
 use rays::rightmost;
+use ring_corners::corners_at;
+use ring_corners::number_at;
 
 const MIN_POSITIVE: f32 = 1.17549435e-38;
 

@@ -20,8 +20,8 @@ use lid::Step;
 use lists::Found;
 use notes::forget;
 use notes::forget_all;
-use places::corners_at;
 use places::remove;
+use ring_corners::corners_at;
 
 // Whether the corner at a place lies on a straight run.
 fn is_straight(us: &[f32], vs: &[f32], ring: &[u32], at: RingPlace) -> bool

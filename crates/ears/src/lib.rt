@@ -16,7 +16,7 @@ use lid::RingPlace;
 use lid::Tested;
 use lists::Found;
 use notes::UNKNOWN;
-use places::corners_at;
+use ring_corners::corners_at;
 
 // The note of a place whose turn is not above 0; any other but UNKNOWN is the number of a corner in the way.
 const UNTURNED: u32 = 0xFFFF_FFFE;

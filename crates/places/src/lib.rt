@@ -1,31 +1,9 @@
-// The places of a ring: their corner numbers, their neighbours, and a corner taken out.
+// The places of a ring: their neighbours, and a corner taken out.
 ghost use mathlib.Core.Path.{_≡_};
-ghost use Prim.Native.Nat.{_+_, _-_, _<_};
-ghost use lib.ListN.{length, getD, take};
+ghost use Prim.Native.Nat.{_-_, _<_};
+ghost use lib.ListN.{length, take};
 ghost use Rattle.lists.specs.Loops.{next, previous, removeAt};
-ghost use Rattle.lid.specs.Steps.{cornerOf, cornersOf};
-use lid::CornerNumber;
-use lid::Corners;
 use lid::RingPlace;
-
-// The corner number at a place of a ring.
-fn number_in(ring: &[u32], at: RingPlace) -> CornerNumber
-    requires { ⌜ at .0 < length (now ring) ⌝ }
-    ensures { λ r. ⌜ r ≡ cornerOf (getD (now (ring .entry)) (at .0) 0) ⌝ }
-{
-    let i = at.0;
-    CornerNumber(ring[i])
-}
-
-// The same, 0 past the end.
-pub fn number_at(ring: &[u32], at: RingPlace) -> CornerNumber
-    ensures { λ r. ⌜ r ≡ cornerOf (getD (now (ring .entry)) (at .0) 0) ⌝ }
-{
-    if at.0 < ring.len() {
-        return number_in(ring, at);
-    }
-    CornerNumber(0)
-}
 
 // The place before, in a ring of n places.
 pub fn place_before(n: usize, at: RingPlace) -> RingPlace
@@ -49,21 +27,6 @@ pub fn place_after(n: usize, at: RingPlace) -> RingPlace
         return RingPlace(0);
     }
     RingPlace(i + 1)
-}
-
-// The corners before, at and after a place.
-pub fn corners_at(ring: &[u32], at: RingPlace) -> Corners
-    requires { ⌜ at .0 < length (now ring) ⌝ }
-    ensures { λ r. ⌜ r ≡ cornersOf (now (ring .entry)) (at .0) ⌝ }
-{
-    let n = ring.len();
-    let before = place_before(n, at);
-    let after = place_after(n, at);
-    Corners {
-        a: number_in(ring, before),
-        b: number_in(ring, at),
-        c: number_in(ring, after),
-    }
 }
 
 // Takes the corner at a place out of a ring: those behind it move down, and the last place keeps its number.

@@ -1,7 +1,7 @@
--- `places::corners_at` meets its contract. Assumes nothing.
+-- `ring_corners::corners_at` meets its contract. Assumes nothing.
 use Prim.Native.Nat.{_-_}
-use Rattle.places.proofs.corners_at.Statement.{statement}
-use Rattle.places.proofs.corners_at.Tie as tie
+use Rattle.ring_corners.proofs.corners_at.Statement.{statement}
+use Rattle.ring_corners.proofs.corners_at.Tie as tie
 
 returns : tie.Need-returns
 returns c = rw (c .number-in3 .ensures, c .before .number-in2 .ensures, c .before .before .number-in .ensures, ← c .before .before .before .place-after .ensures .0, ← c .before .before .before .before .place-before .ensures .0)

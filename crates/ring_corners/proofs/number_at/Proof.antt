@@ -1,9 +1,9 @@
--- `places::number_at` meets its contract. Assumes nothing.
+-- `ring_corners::number_at` meets its contract. Assumes nothing.
 use mathlib.Core.List.{List}
 use Prim.Native.Nat.{_-_}
 use lib.ListN.{List·getD-eq-default}
-use Rattle.places.proofs.number_at.Statement.{statement}
-use Rattle.places.proofs.number_at.Tie as tie
+use Rattle.ring_corners.proofs.number_at.Statement.{statement}
+use Rattle.ring_corners.proofs.number_at.Tie as tie
 use denote.Ref.{now}
 
 returns-2 : tie.Need-returns-2
