@@ -4,11 +4,11 @@ ghost use mathlib.Core.Path.{_≡_};
 ghost use Prim.Native.Nat.{_+_, _≤_};
 ghost use lib.ListN.{length};
 ghost use Rattle.scene.specs.Headers.{volumeSize, bodyAt, bodySize, headerAt};
-use fields::f32_at;
 use fields::u16_at;
 use fields::u32_at;
+use float_fields::f32_at;
+use hole_counts::sum_counts;
 use object::Extent;
-use records::sum_counts;
 use scene::headers::Body;
 use scene::headers::Header;
 

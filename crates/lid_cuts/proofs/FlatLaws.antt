@@ -23,9 +23,9 @@ use Rattle.lid.specs.declared.LidCounts.{LidCounts}
 use Rattle.lid.specs.Written.{WritesLid}
 use Rattle.lid.specs.Steps.{flatOn}
 use Rattle.shapes.specs.Shapes.{allCorners, flatOf, outlineLid}
-use Rattle.lid_plane.specs.declared.OutlineAt.{OutlineAt}
-use Rattle.lid_plane.specs.Outlines.{pointsAt, cornersOf, holeCorners, lidAt, Measured}
-use Rattle.lid_plane.proofs.CornerLaws.{map-list, tops-points}
+use Rattle.corners.specs.declared.OutlineAt.{OutlineAt}
+use Rattle.corners.specs.Outlines.{pointsAt, cornersOf, holeCorners, lidAt, Measured}
+use Rattle.corners.proofs.CornerLaws.{map-list, tops-points}
 
 -- ---- corners laid flat
 

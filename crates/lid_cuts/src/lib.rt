@@ -6,12 +6,12 @@ ghost use Rattle.fields.specs.Fields.{countsAt};
 ghost use Rattle.lid.specs.Plane.{flatten};
 ghost use Rattle.lid.specs.Rings.{flats};
 ghost use Rattle.lid.specs.Written.{WritesLid};
-ghost use Rattle.lid_plane.specs.Outlines.{pointsAt, PointsIn, lidAt, Measured};
+ghost use Rattle.corners.specs.Outlines.{pointsAt, PointsIn, lidAt, Measured};
 use axes::first_axis;
 use axes::flat_corner;
+use corners::OutlineAt;
 use fields::u16_in;
 use geometry::point_at;
-use lid_plane::OutlineAt;
 use triangulation::triangulate;
 use vectors::Vector;
 

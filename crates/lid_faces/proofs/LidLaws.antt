@@ -29,9 +29,9 @@ use Rattle.lid.specs.Lid.{lidPrice}
 use Rattle.lid.specs.Written.{triangleRecord, triangleNumbers}
 use Rattle.lid.proofs.Facts.{lid-triangles, lid-corners}
 use Rattle.shapes.specs.Shapes.{flatOf, outlineLid}
-use Rattle.lid_plane.specs.declared.OutlineAt.{OutlineAt}
-use Rattle.lid_plane.specs.Outlines.{faceAt, pointsAt, cornersOf, holeCorners, lidAt, Placed, Measured}
-use Rattle.lid_plane.proofs.CornerLaws.{points-length}
+use Rattle.corners.specs.declared.OutlineAt.{OutlineAt}
+use Rattle.corners.specs.Outlines.{faceAt, pointsAt, cornersOf, holeCorners, lidAt, Placed, Measured}
+use Rattle.corners.proofs.CornerLaws.{points-length}
 use Rattle.lid_cuts.proofs.FillLaws.{fill-front}
 use Rattle.shapes.proofs.Sizes.{outline-entries, price-lid}
 

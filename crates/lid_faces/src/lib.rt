@@ -13,11 +13,11 @@ ghost use Rattle.offering.specs.Triangles.{trianglesIn};
 ghost use Rattle.face.specs.Drawing.{drawing, Drew, Room};
 ghost use Rattle.lid.specs.Written.{logWith};
 ghost use Rattle.shapes.specs.Shapes.{hasHeight, lidFaces};
-ghost use Rattle.lid_plane.specs.Outlines.{pointsAt, CornersIn, PointsIn, lidAt, Measured};
+ghost use Rattle.corners.specs.Outlines.{pointsAt, CornersIn, PointsIn, lidAt, Measured};
+use corners::OutlineAt;
 use face::Tally;
 use geometry::point_at;
 use lid_cuts::cut;
-use lid_plane::OutlineAt;
 use shapes::Drawn;
 use vectors::Vector;
 

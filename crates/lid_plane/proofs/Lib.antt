@@ -1,2 +1,1 @@
-pub mod CornerLaws
-pub mod Searches
+pub mod AreaLaws

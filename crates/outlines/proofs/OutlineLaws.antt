@@ -27,8 +27,8 @@ use Rattle.shapes.specs.Shapes.{walls, outerWalls, holeWalls, allCorners, flatO
 use Rattle.shapes.specs.declared.Drawn.{Drawn}
 use Rattle.shapes.specs.Drawn.{CanDraw, DrewObject}
 use Rattle.shapes.specs.Price.{offered, outlinePrice}
-use Rattle.lid_plane.specs.declared.OutlineAt.{OutlineAt}
-use Rattle.lid_plane.specs.Outlines.{cornersOf, holeCorners, outlineShape, lidAt, Placed, Measured}
+use Rattle.corners.specs.declared.OutlineAt.{OutlineAt}
+use Rattle.corners.specs.Outlines.{cornersOf, holeCorners, outlineShape, lidAt, Placed, Measured}
 use Rattle.outlines.specs.Measures.{outlineIn}
 use Rattle.shapes.proofs.Sizes.{sum-lengths, outer-points, holes-points}
 use Rattle.shapes.proofs.Prices.{walls-count, holes-count}

@@ -5,8 +5,8 @@ use mathlib.Core.List.{List}
 use Rattle.fields.specs.Fields.{cornersAt}
 use Rattle.lid.specs.Plane.{lidNormal}
 use Rattle.shapes.specs.Shapes.{hasHeight}
-use Rattle.lid_plane.specs.declared.OutlineAt.{OutlineAt}
-use Rattle.lid_plane.specs.Outlines.{cornersOf, holeCorners}
+use Rattle.corners.specs.declared.OutlineAt.{OutlineAt}
+use Rattle.corners.specs.Outlines.{cornersOf, holeCorners}
 
 -- the outline whose counts are at i; only a closed one is asked for its height
 abbrev pub outlineIn : List ℕ → ℕ → Bool → ℕ → ℕ → OutlineAt

@@ -10,19 +10,19 @@ ghost use Rattle.face.specs.Drawing.{tally, drawing, Drew, Room};
 ghost use Rattle.lid.specs.Plane.{about};
 ghost use Rattle.shapes.specs.Shapes.{outerWalls, holeWalls};
 ghost use Rattle.shapes.specs.Drawn.{DrewObject};
-ghost use Rattle.lid_plane.specs.Outlines.{CornersIn, outlineShape, Placed, Measured};
+ghost use Rattle.corners.specs.Outlines.{CornersIn, outlineShape, Placed, Measured};
 ghost use Rattle.outlines.specs.Measures.{outlineIn};
+use corners::OutlineAt;
+use corners::has_height;
 use face::Tally;
+use hole_counts::sum_counts;
+use hole_walls::hole_walls;
 use lid_faces::cap;
-use lid_plane::OutlineAt;
 use lid_plane::about;
-use lid_plane::has_height;
 use lid_plane::lid_normal;
-use records::sum_counts;
 use shapes::Drawn;
 use shapes::NOTHING;
 use vectors::Vector;
-use walls::hole_walls;
 use walls::walls;
 
 // What the walls of n outer corners at `at` are square to: the lid's normal, so that they face out, or

@@ -5,7 +5,6 @@ ghost use mathlib.Core.Bool.{Bool};
 ghost use mathlib.Core.List.{List};
 ghost use Prim.Native.Nat.{ℕ, _+_, _*_, _≤_};
 ghost use lib.ListN.{length};
-ghost use Rattle.lists.specs.Loops.{sumOf};
 ghost use Rattle.object.specs.declared.Extent.{Extent};
 ghost use Rattle.object.specs.declared.Section.{Section};
 ghost use Rattle.object.specs.Object.{Shape, Object};
@@ -14,8 +13,8 @@ ghost use Rattle.scene.specs.Scene.{rest, solidAt, outlineCorners, outlineAt, s
 ghost use Rattle.scene.specs.Answers.{endOf};
 use allowed::all_allowed32;
 use allowed::orientation_allowed;
-use fields::u16_at;
 use fields::u16_in;
+use hole_counts::sum_counts;
 use scene::Refusal;
 use scene::records::RecordEnd;
 
@@ -50,22 +49,6 @@ fn check_numbers(s: &[u8], e: usize, i: usize, n: usize) -> RecordEnd
         return RecordEnd::Bad(Refusal::Numbers);
     }
     RecordEnd::At(i + size)
-}
-
-// The sum of n counts from place i on.
-pub fn sum_counts(s: &[u8], n: u16, i: usize) -> usize
-    ensures { λ r. ⌜ (r ≡ sumOf (λ k. k) (countsAt (now (s .entry)) n i)) × (r ≤ 65535 * n) ⌝ }
-{
-    if s.len() <= i {
-        return 0;
-    }
-    let mut sum = 0;
-    let mut k = 0;
-    while k < n {
-        sum += u16_at(s, i + 2 * (k as usize)) as usize;
-        k += 1;
-    }
-    sum
 }
 
 // An outline whose counts, at i, are read but for those of its holes.

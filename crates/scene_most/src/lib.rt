@@ -14,12 +14,12 @@ ghost use Rattle.shapes.specs.Drawn.{CanDraw};
 ghost use Rattle.most.specs.Most.{mostOf, exactOf, hasLid, inPart, partOf, together, partOfAll, Few};
 use answers::min_area;
 use headers::header_at;
+use hole_counts::sum_counts;
 use most::Most;
 use most::of_shape;
 use most::outline_most;
 use most::solid_most;
 use most::sweep_most;
-use records::sum_counts;
 use scene::headers::Body;
 
 // The most of the object whose record's body is at i.

@@ -15,12 +15,12 @@ ghost use Rattle.triangulation.specs.Opened.{Prepares, openEntries, open
 use cutting::cut_ring;
 use entries::put_entry;
 use holes::hole_start;
-use holes::survey;
 use joining::join_holes;
 use lid::LidCounts;
 use lid::Prepared;
 use ordering::order_holes;
 use ring::write_ring;
+use survey::survey;
 
 // Writes the entries of the holes that are skipped, and puts the others in joining order.
 fn prepare(

@@ -6,7 +6,7 @@ use native.Mathlib.Nat.{zero-add}
 use native.Mathlib.Omega.{arith}
 use lib.Seq.{length-take-le}
 use Rattle.lid_faces.proofs.LidLaws.{triangles-drawn, few-triangles, lid-asks}
-use Rattle.lid_plane.specs.Outlines.{lidAt}
+use Rattle.corners.specs.Outlines.{lidAt}
 use Rattle.lid_faces.proofs.cap_in.Statement.{statement}
 use Rattle.lid_faces.proofs.cap_in.Tie as tie
 

@@ -7,7 +7,7 @@ use lib.Seq.{length-take-le}
 use Rattle.offering.specs.Triangles.{trianglesIn}
 use Rattle.face.proofs.Draws.{then, room-less}
 use Rattle.face.proofs.OneFace.{length-triangles}
-use Rattle.lid_plane.proofs.CornerLaws.{bases-points, tops-points, points-length}
+use Rattle.corners.proofs.CornerLaws.{bases-points, tops-points, points-length}
 use Rattle.lid_faces.proofs.LidLaws.{points-drawn, face-asks, face-room}
 use Rattle.shapes.specs.Shapes.{lidFaces}
 use Rattle.lid_faces.proofs.lid_faces.Statement.{statement}

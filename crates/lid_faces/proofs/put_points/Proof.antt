@@ -10,7 +10,7 @@ use Rattle.coords.specs.Buffers.{vertexRecord, vertexNumbers}
 use Rattle.lists.proofs.Stores.{store-start, store-next, store-end}
 use Rattle.lists.specs.Loops.{list, join}
 use Rattle.fields.specs.Fields.{pointAt}
-use Rattle.lid_plane.specs.Outlines.{pointsAt}
+use Rattle.corners.specs.Outlines.{pointsAt}
 use Rattle.lid_faces.proofs.put_points.Statement.{statement}
 use Rattle.lid_faces.proofs.put_points.Tie as tie
 

@@ -7,7 +7,7 @@ use Rattle.axes.proofs.AboutLaws.{about-from}
 use Rattle.lid.specs.Plane.{areaNormal}
 use Rattle.lid.specs.Steps.{aboutFrom}
 use Rattle.fields.specs.Fields.{cornersAt}
-use Rattle.lid_plane.proofs.CornerLaws.{bases-points}
+use Rattle.corners.proofs.CornerLaws.{bases-points}
 use Rattle.lid_plane.proofs.about.Statement.{statement}
 use Rattle.lid_plane.proofs.about.Tie as tie
 

@@ -9,8 +9,8 @@ use Rattle.lid.specs.Steps.{areaNormalAt}
 use Rattle.lists.proofs.Loops.{loop-next, loop-end}
 use Rattle.lists.proofs.Places.{next-inside}
 use Rattle.lists.specs.Loops.{list, loop}
-use Rattle.lid_plane.proofs.CornerLaws.{area-at, area-start}
-use Rattle.lid_plane.specs.Outlines.{pointsAt}
+use Rattle.lid_plane.proofs.AreaLaws.{area-at, area-start}
+use Rattle.corners.specs.Outlines.{pointsAt}
 use Rattle.lid_plane.proofs.area_normal.Statement.{statement}
 use Rattle.lid_plane.proofs.area_normal.Tie as tie
 

@@ -13,8 +13,9 @@ use Rattle.fields.specs.Fields.{cornerAt, cornersAt}
 use Rattle.lid.specs.Plane.{topsOf, areaNormalStep, areaNormal, riseStep, rise, lidNormal}
 use Rattle.lid.specs.Steps.{lidNormalFrom}
 use Rattle.plane.proofs.PlaneLaws.{normal-from}
-use Rattle.lid_plane.specs.Outlines.{pointsAt}
-use Rattle.lid_plane.proofs.CornerLaws.{area-start, tops-points, tops-at}
+use Rattle.corners.specs.Outlines.{pointsAt}
+use Rattle.corners.proofs.CornerLaws.{tops-points}
+use Rattle.lid_plane.proofs.AreaLaws.{area-start, tops-at}
 use Rattle.lid_plane.proofs.lid_normal.Statement.{statement}
 use Rattle.lid_plane.proofs.lid_normal.Tie as tie
 

@@ -4,7 +4,7 @@ use Prim.Native.Nat.{_+_, _-_}
 use native.Mathlib.Omega.{arith}
 use Rattle.face.proofs.Draws.{then, room-less}
 use Rattle.walls.proofs.WallLaws.{start-room, outer-room}
-use Rattle.lid_plane.specs.Outlines.{holeCorners}
+use Rattle.corners.specs.Outlines.{holeCorners}
 use Rattle.outlines.proofs.OutlineLaws.{few-edges, outer-drew}
 use Rattle.outlines.proofs.all_walls.Statement.{statement}
 use Rattle.outlines.proofs.all_walls.Tie as tie
