@@ -85,12 +85,6 @@ impl Vector {
         }
     }
 
-    fn length(self) -> f32
-        ensures { λ r. ⌜ r ≡ norm self ⌝ }
-    {
-        roots::sqrt(self.dot(self))
-    }
-
     // Whether the length is below limit, told by the square: no root is taken.
     pub fn shorter_than(self, limit: f32) -> bool
         ensures { λ r. ⌜ r ≡ lt (norm self) limit ⌝ }
@@ -102,7 +96,7 @@ impl Vector {
     pub fn normalize_or(self, fallback: Vector) -> Vector
         ensures { λ r. ⌜ r ≡ normalizeOr self fallback ⌝ }
     {
-        let len = self.length();
+        let len = roots::sqrt(self.dot(self));
         if signs::is_finite(len) & (0.0 < len) {
             self.scale(1.0 / len)
         } else {
