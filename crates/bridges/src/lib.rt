@@ -45,9 +45,11 @@ fn seen_at(us: &[f32], vs: &[f32], ring: &[u32], ray: Ray, at: RingPlace, best: 
     let k = at.0;
     let c = ring[k];
     let r = flat_at(us, vs, CornerNumber(c));
+    if (ray.s == 0.0) | (c == ray.end.0) | (r.u < ray.m.u) {
+        return best;
+    }
     let p = flat_at(us, vs, ray.end);
-    let apart = !inside(ray.m, ray.i, p, ray.s, r);
-    if (ray.s == 0.0) | (c == ray.end.0) | (r.u < ray.m.u) | apart {
+    if !inside(ray.m, ray.i, p, ray.s, r) {
         return best;
     }
     let y = slope(ray.m, r);
