@@ -1,4 +1,7 @@
 // Build: tests the room, by the most that the objects can come to or else measured, and then writes.
+
+mod pass;
+
 ghost use mathlib.Core.Path.{_≡_};
 ghost use Prim.Native.Nat.{_≤_};
 ghost use Rattle.scene.specs.declared.scenes.Checked.the-variants.{Accepted};
@@ -8,11 +11,11 @@ ghost use Rattle.scene_mesh.specs.Operations.{lent, build};
 ghost use Rattle.answers.specs.Answers.{lengthsFrom, builtWith};
 ghost use Rattle.most.specs.Most.{numbersOf, together, Few};
 ghost use Rattle.build.specs.Plan.{PlanBy, PlanHolds};
+use crate::pass::write_objects;
 use answers::BuiltAnswer;
 use answers::Lengths;
 use answers::min_area;
 use most::Most;
-use pass::write_objects;
 use room::bound_counts;
 use room::room;
 use scene::scenes::Checked;

@@ -12,7 +12,7 @@ use lists::Found;
 fn no_area(limit: f32, a: Point, b: Point, c: Point) -> bool
     ensures { λ r. ⌜ r ≡ noArea limit a b c ⌝ }
 {
-    b.sub(a).cross(c.sub(a)).shorter_than(limit)
+    thin::shorter_than(b.sub(a).cross(c.sub(a)), limit)
 }
 
 pub fn first_not_finite(vertices: &[f32]) -> Found

@@ -30,7 +30,7 @@ fn judge(limit: f32, out: Vector, a: Point, b: Point, c: Point) -> Side
     ensures { λ r. ⌜ r ≡ sideOf limit out a b c ⌝ }
 {
     let n = b.sub(a).cross(c.sub(a));
-    if n.shorter_than(limit) {
+    if thin::shorter_than(n, limit) {
         return Side::Thin;
     }
     if n.dot(out) < 0.0 {

@@ -1,7 +1,4 @@
-// How far the pass over the records has come, and what it stores for each object.
-
-pub mod stores;
-
+// How far the pass over the records has come.
 ghost use mathlib.Core.Path.{_≡_};
 ghost use Prim.Native.Nat.{_*_, _<_, _≤_};
 ghost use Rattle.progress.specs.Pass.{startOf, StartsIn, spansMore, advanced, CanAdvance};

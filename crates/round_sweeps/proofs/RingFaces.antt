@@ -27,9 +27,9 @@ use Rattle.face.proofs.Draws.{then}
 use Rattle.fields.specs.Fields.{sectionAt, sectionsAt}
 use Rattle.shapes.specs.Shapes.{Ellipse, ellipse, ellipse0, startOut, endOut, endFace, tubeSide, tubeFaces, tubeCaps, pairs, roundSweepFaces}
 use Rattle.ends.proofs.Rings.{list-more, drew-next}
-use Rattle.sections.specs.Places.{EndPlaces}
+use Rattle.neighbours.specs.Places.{EndPlaces}
 use Rattle.round_sweeps.specs.Rings.{ringAbout}
-use Rattle.sections.proofs.Neighbours.{map-list, pair-drawn, ends-are}
+use Rattle.neighbours.proofs.Neighbours.{map-list, pair-drawn, ends-are}
 
 -- ---- lists
 

@@ -15,7 +15,7 @@ use crate::ellipses::tube;
 use coords::Point;
 use face::Tally;
 use geometry::section_at;
-use sections::places_of;
+use neighbours::places_of;
 
 fn centre_at(s: &[u8], i: usize) -> Point
     requires { ⌜ i + 48 ≤ length (now s) ⌝ }

@@ -1,7 +1,5 @@
-// The sections of a sweep, told apart as `sweep` has it, and the places of those at its ends.
+// The sections of a sweep, told apart as `sweep` has it.
 ghost use mathlib.Core.Path.{_≡_};
-ghost use Prim.Native.Nat.{_+_, _*_, _<_, _^_};
-ghost use Rattle.sections.specs.Places.{EndPlaces};
 ghost use Rattle.shapes.specs.Shapes.{sameCorner, isThinSection, isFlatSection};
 use object::Corner;
 use object::Section;
@@ -32,31 +30,4 @@ pub fn is_flat(s: Section) -> bool
     let rb = s.right.base;
     let rt = s.right.top;
     lb.eq(lt) & rb.eq(rt)
-}
-
-// The places of a sweep's last section and of those beside its first and its last one. One section
-// alone stands beside itself.
-pub struct Places {
-    pub second: usize,
-    pub last: usize,
-    pub previous: usize,
-}
-
-pub fn places_of(at: usize, n: usize) -> Places
-    requires { ⌜ (0 < n) × (at + 48 * n < 2 ^ 64) ⌝ }
-    ensures { λ r. ⌜ EndPlaces at n (r .second) (r .last) (r .previous) ⌝ }
-{
-    let last = at + 48 * (n - 1);
-    if n < 2 {
-        return Places {
-            second: at,
-            last,
-            previous: at,
-        };
-    }
-    Places {
-        second: at + 48,
-        last,
-        previous: last - 48,
-    }
 }

@@ -13,7 +13,7 @@ use Rattle.fields.specs.Fields.{sectionAt, sectionsAt}
 use Rattle.scene.proofs.Parts.{sections-length}
 use Rattle.shapes.specs.Shapes.{pairs}
 use Rattle.shapes.specs.Price.{pairPrice, pairsPrice, capsPrice, offered}
-use Rattle.sections.proofs.Neighbours.{pairs-next}
+use Rattle.neighbours.proofs.Neighbours.{pairs-next}
 
 -- the price of each pair, in a list
 abbrev prices : Section → Section → List ℕ

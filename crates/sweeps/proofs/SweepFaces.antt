@@ -21,9 +21,9 @@ use Rattle.face.proofs.Counts.{count}
 use Rattle.face.proofs.Draws.{then}
 use Rattle.fields.specs.Fields.{pointAt, cornerAt, sectionAt, sectionsAt}
 use Rattle.scene.proofs.Parts.{sections-get}
-use Rattle.sections.specs.Places.{EndPlaces}
+use Rattle.neighbours.specs.Places.{EndPlaces}
 use Rattle.shapes.specs.Shapes.{section0, isThinSection, isFlatSection, pairFaces, pairs, startOut, endOut, cap, sweepCaps, sweepFaces}
-use Rattle.sections.proofs.Neighbours.{ends-are}
+use Rattle.neighbours.proofs.Neighbours.{ends-are}
 
 -- the points of a face
 abbrev size : Face → ℕ

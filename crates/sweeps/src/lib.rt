@@ -15,10 +15,10 @@ use face::Tally;
 use face::quad;
 use geometry::point_at;
 use geometry::section_at;
+use neighbours::places_of;
 use object::Section;
 use sections::is_flat;
 use sections::is_thin;
-use sections::places_of;
 use vectors::Vector;
 
 // To the left of the way from a to b.

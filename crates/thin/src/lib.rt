@@ -1,11 +1,13 @@
-// The thin test without a root, for every value.
+// The thin test: whether a vector is shorter than the limit, told by its square, for every value.
 ghost use mathlib.Core.Path.{_≡_};
 ghost use lib.Ieee.{lt};
 ghost use Rattle.float.specs.Thin.{thinBound};
+ghost use Rattle.vectors.specs.Vectors.{norm};
+use vectors::Vector;
 
 // The square of the middle between the limit and the f32 before it: a number's root is below the
 // limit where the number is below this. It is 0 for a limit that no root is below.
-pub fn thin_bound(limit: f32) -> f64
+fn thin_bound(limit: f32) -> f64
     ensures { λ r. ⌜ r ≡ thinBound limit ⌝ }
 {
     if 0.0 < limit {
@@ -17,8 +19,15 @@ pub fn thin_bound(limit: f32) -> f64
 }
 
 // Whether the root of a number that is not below zero is below the limit that bound is of.
-pub fn shorter(square: f32, bound: f64) -> bool
+fn shorter(square: f32, bound: f64) -> bool
     ensures { λ r. ⌜ r ≡ lt square bound ⌝ }
 {
     std::num::f32_to_f64_with_nan(square) < bound
+}
+
+// Whether a vector's length is below limit. No root is taken.
+pub fn shorter_than(v: Vector, limit: f32) -> bool
+    ensures { λ r. ⌜ r ≡ lt (norm v) limit ⌝ }
+{
+    shorter(v.dot(v), thin_bound(limit))
 }

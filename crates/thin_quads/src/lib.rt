@@ -13,7 +13,7 @@ use coords::Point;
 fn is_thin(limit: f32, a: Point, b: Point, c: Point) -> bool
     ensures { λ r. ⌜ r ≡ lt (norm (cross (diff b a) (diff c a))) limit ⌝ }
 {
-    b.sub(a).cross(c.sub(a)).shorter_than(limit)
+    thin::shorter_than(b.sub(a).cross(c.sub(a)), limit)
 }
 
 // How many triangles of a face of four points are thin, which is all that counts where nothing is written.

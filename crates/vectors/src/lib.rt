@@ -1,7 +1,6 @@
 // Vectors: three f32, by value, with the operations of coords.rs in its order.
 ghost use mathlib.Core.Path.{_≡_};
-ghost use lib.Ieee.{lt};
-ghost use Rattle.vectors.specs.Vectors.{plus, less, scale, negate, dot, cross, norm, normalizeOr};
+ghost use Rattle.vectors.specs.Vectors.{plus, less, scale, negate, dot, cross, normalizeOr};
 
 // A displacement between points, or a direction.
 pub struct Vector {
@@ -83,13 +82,6 @@ impl Vector {
             y: self.z * other.x - self.x * other.z,
             z: self.x * other.y - self.y * other.x,
         }
-    }
-
-    // Whether the length is below limit, told by the square: no root is taken.
-    pub fn shorter_than(self, limit: f32) -> bool
-        ensures { λ r. ⌜ r ≡ lt (norm self) limit ⌝ }
-    {
-        thin::shorter(self.dot(self), thin::thin_bound(limit))
     }
 
     // At unit length, or fallback where the length is zero or not finite.

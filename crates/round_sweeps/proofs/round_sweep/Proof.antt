@@ -12,7 +12,7 @@ use Rattle.object.specs.declared.Section.{Section}
 use Rattle.fields.specs.Fields.{sectionAt, sectionsAt}
 use Rattle.shapes.specs.Shapes.{pairs, ellipse, endFace, tubeFaces}
 use Rattle.round_sweeps.specs.Rings.{ringAbout}
-use Rattle.sections.proofs.Neighbours.{second-in}
+use Rattle.neighbours.proofs.Neighbours.{second-in}
 use Rattle.round_sweeps.proofs.RingFaces.{tube-points, tube-triangles, tube-drawn, ring-size, round-none, round-drawn}
 use Rattle.round_sweeps.proofs.round_sweep.Statement.{statement}
 use Rattle.round_sweeps.proofs.round_sweep.Tie as tie

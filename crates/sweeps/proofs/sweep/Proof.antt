@@ -8,7 +8,7 @@ use Rattle.face.specs.Drawing.{drawing, Drew, Room}
 use Rattle.face.proofs.Draws.{drew-room, drew-none, drew-vertices, drew-normals, drew-indices, room-less}
 use Rattle.fields.specs.Fields.{sectionAt, sectionsAt}
 use Rattle.shapes.specs.Shapes.{pairFaces, pairs}
-use Rattle.sections.proofs.Neighbours.{pair-drawn, second-in}
+use Rattle.neighbours.proofs.Neighbours.{pair-drawn, second-in}
 use Rattle.sweeps.proofs.SweepFaces.{pair-points, pair-triangles, sweep-drawn, sweep-none}
 use Rattle.sweeps.proofs.sweep.Statement.{statement}
 use Rattle.sweeps.proofs.sweep.Tie as tie

@@ -18,7 +18,7 @@ use Rattle.face.specs.Drawing.{Drawing, Drew}
 use Rattle.face.proofs.Draws.{then}
 use Rattle.fields.specs.Fields.{sectionAt, sectionsAt}
 use Rattle.scene.proofs.Parts.{sections-length}
-use Rattle.sections.specs.Places.{EndPlaces}
+use Rattle.neighbours.specs.Places.{EndPlaces}
 use Rattle.shapes.specs.Shapes.{pairs, startOut, endOut}
 
 pub map-list : {A B : Type 0} (f : A → B) (g : ℕ → A) (n k : ℕ) → map f (list g n k) ≡ list (λ i. f (g i)) n k

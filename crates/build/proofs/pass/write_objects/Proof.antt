@@ -1,11 +1,11 @@
--- `pass::write_objects` meets its contract. Assumes nothing.
+-- `build::pass::write_objects` meets its contract. Assumes nothing.
 use mathlib.Core.Path.{ap}
 use Prim.Native.Nat.{_-_}
 use native.Mathlib.Omega.{arith}
 use Rattle.progress.proofs.Pass.Walks.{Walks, walks-start, can-add, one-more, walks-next, walks-fit, walks-wrote}
 use Rattle.scene_mesh.specs.Operations.{Counts, lent, countsOf}
-use Rattle.pass.proofs.write_objects.Statement.{statement}
-use Rattle.pass.proofs.write_objects.Tie as tie
+use Rattle.build.proofs.pass.write_objects.Statement.{statement}
+use Rattle.build.proofs.pass.write_objects.Tie as tie
 
 abbrev Inv-loop : tie.InvT-loop
 Inv-loop s n limit vs₀ ns₀ is₀ spans₀ account₀ log₀ p₀ vs ns is spans account log p = Walks limit s n (lent vs₀ ns₀ is₀ spans₀ account₀ log₀) (lent vs ns is spans account log) p

@@ -14,8 +14,8 @@ use progress::Progress;
 use progress::advance;
 use progress::count_numbers;
 use progress::starts_in;
-use progress::stores::put_account;
-use progress::stores::put_span;
+use stores::put_account;
+use stores::put_span;
 
 // The object of the next record, drawn into the tails of the buffers.
 fn object_at(

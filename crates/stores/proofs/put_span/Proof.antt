@@ -1,13 +1,13 @@
--- `progress::stores::put_span` meets its contract. Assumes nothing.
+-- `stores::put_span` meets its contract. Assumes nothing.
 use Prim.Native.Nat.{_+_, _*_}
 use borrow.Author.Needs.{needs}
 use borrow.Author.Tests.{eq-eqb, ne-eqb}
 use Rattle.lists.specs.Loops.{join}
 use Rattle.progress.proofs.Pass.Tails.{sets-fifth}
 use Rattle.scene_mesh.specs.Mesh.{spanNumbers}
 use Rattle.progress.specs.Pass.{spanBy}
-use Rattle.progress.proofs.stores.put_span.Statement.{statement}
-use Rattle.progress.proofs.stores.put_span.Tie as tie
+use Rattle.stores.proofs.put_span.Statement.{statement}
+use Rattle.stores.proofs.put_span.Tie as tie
 
 returns : tie.Need-returns
 unfolding spanBy spanNumbers join

@@ -1,10 +1,10 @@
--- `Vector::shorter_than` meets its contract, by the law of `thinBound`. Assumes nothing.
+-- `thin::shorter_than` meets its contract, by the law of `thinBound`. Assumes nothing.
 use mathlib.Core.Path.{sym, subst}
 use lib.Dec.{T}
 use borrow.Author.Needs.{needs}
-use Rattle.vectors.proofs.Squares.{thin-norm}
-use Rattle.vectors.proofs.Vector.shorter_than.Statement.{statement}
-use Rattle.vectors.proofs.Vector.shorter_than.Tie as tie
+use Rattle.thin.proofs.Squares.{thin-norm}
+use Rattle.thin.proofs.shorter_than.Statement.{statement}
+use Rattle.thin.proofs.shorter_than.Tie as tie
 
 dot-requires : tie.Need-dot-requires
 dot-requires c κs = search needs
@@ -18,7 +18,7 @@ shorter-requires c κs = search needs
 returns : tie.Need-returns
 returns c =
     let s = c .before .before .before in
-    rw (c .shorter .ensures, c .before .thin-bound .ensures, c .before .before .dot .ensures) (sym (thin-norm (s .args .self) (s .args .limit) (subst T (sym (s .good .1 .0 .1)) tt)))
+    rw (c .shorter .ensures, c .before .thin-bound .ensures, c .before .before .dot .ensures) (sym (thin-norm (s .args .v) (s .args .limit) (subst T (sym (s .good .1 .0 .1)) tt)))
 
 pub shorter-than-spec : {M : Type 1} → statement M
 shorter-than-spec = tie.close (tie.spec dot-requires thin-bound-requires shorter-requires returns)

@@ -3,11 +3,11 @@ ghost use mathlib.Core.Path.{_≡_};
 ghost use Prim.Native.Nat.{_+_, _*_, _<_, _^_};
 ghost use lib.Seq.{sets};
 ghost use Rattle.scene_mesh.specs.Mesh.{spanNumbers};
 ghost use Rattle.progress.specs.Pass.{spanBy, accountBy};
-use crate::Progress;
 use face::Tally;
 use numbers::put_four;
 use numbers::put_number;
+use progress::Progress;
 use shapes::Drawn;
 
 // The span of an object that came to t, if it has one.

@@ -1,10 +1,10 @@
--- `pass::object_at` meets its contract. Assumes nothing.
+-- `build::pass::object_at` meets its contract. Assumes nothing.
 use native.Mathlib.Omega.{arith}
 use native.Mathlib.Nat.{le-refl}
 use borrow.Author.Needs.{needs}
 use Rattle.progress.proofs.Pass.Adding.{drawn-is, drew-behind, can-draw, can-advance, added-object}
-use Rattle.pass.proofs.object_at.Statement.{statement}
-use Rattle.pass.proofs.object_at.Tie as tie
+use Rattle.build.proofs.pass.object_at.Statement.{statement}
+use Rattle.build.proofs.pass.object_at.Tie as tie
 
 draw-requires : tie.Need-draw-requires
 draw-requires c κs = can-draw (c .before .before .before .before .before .before .before .before .before .before .before .before .before .before .pre) (c .before .before .before .before .before .before .header-at .ensures)
