@@ -3,8 +3,8 @@ use mathlib.Core.Path.{_≡_, refl}
 use mathlib.Core.List.{List}
 use Rattle.vectors.specs.declared.Vector.{Vector}
 use Rattle.object.specs.declared.Corner.{Corner}
-use Rattle.lid.specs.Plane.{areaNormal, basesOf, about}
-use Rattle.lid.specs.Steps.{aboutFrom}
+use Rattle.flattening.specs.Plane.{areaNormal, basesOf, about}
+use Rattle.flattening.specs.Steps.{aboutFrom}
 
 pub about-from : (cs : List Corner) (lid : Vector) → aboutFrom (areaNormal (basesOf cs)) lid ≡ about cs lid
 unfolding about

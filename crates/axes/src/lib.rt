@@ -1,8 +1,8 @@
 // The directions of a lid's plane, and a corner laid flat on it: the lid's normal or its reverse as a ring
 // runs about it, the plane's first axis, and a top measured along both axes.
 ghost use mathlib.Core.Path.{_≡_};
-ghost use Rattle.lid.specs.Plane.{firstAxis};
-ghost use Rattle.lid.specs.Steps.{aboutFrom, flatOn, axisAcross};
+ghost use Rattle.flattening.specs.Plane.{firstAxis};
+ghost use Rattle.flattening.specs.Steps.{aboutFrom, flatOn, axisAcross};
 use coords::Point;
 use lid::Flat;
 use vectors::Vector;

@@ -10,7 +10,7 @@ use lib.Dec.{leb, eqb}
 use lib.Seq.{take-length, take-append-le, length-take-le, length-front}
 use borrow.Author.Tests.{leb-false}
 use Rattle.lists.specs.Loops.{first, removeAt}
-use Rattle.face.specs.Faces.{Triangle, triangle}
+use Rattle.triangles.specs.Triangles.{Triangle, triangle}
 use Rattle.lid.specs.declared.Flat.{Flat}
 use Rattle.lid.specs.declared.RingPlace.{RingPlace}
 use Rattle.lid.specs.declared.Step.{Step}

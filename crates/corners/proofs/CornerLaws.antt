@@ -10,7 +10,7 @@ use Rattle.lists.proofs.Lists.{length-list, getD-list, list-same}
 use Rattle.coords.specs.Coords.{origin}
 use Rattle.object.specs.declared.Corner.{Corner}
 use Rattle.fields.specs.Fields.{pointAt, cornerAt, cornersAt}
-use Rattle.lid.specs.Plane.{topsOf, basesOf}
+use Rattle.flattening.specs.Plane.{topsOf, basesOf}
 use Rattle.corners.specs.Outlines.{pointsAt}
 
 pub map-list : {A B : Type 0} (g : A → B) (f : ℕ → A) (n k : ℕ) → map g (list f n k) ≡ list (λ i. g (f i)) n k

@@ -13,7 +13,7 @@ use Rattle.object.specs.declared.Corner.{Corner}
 use Rattle.object.specs.Object.{Shape, outline}
 use Rattle.fields.specs.Fields.{pointAt, countsAt, cornersAt, holesAt}
 use Rattle.face.specs.Faces.{Triangle, Face, quad}
-use Rattle.lid.specs.Plane.{lidNormal}
+use Rattle.flattening.specs.Plane.{lidNormal}
 use Rattle.lid.specs.Lid.{Lid}
 use Rattle.shapes.specs.Shapes.{outlineLid}
 use Rattle.corners.specs.declared.OutlineAt.{OutlineAt}

@@ -8,7 +8,7 @@ use native.Mathlib.Omega.{arith}
 use lib.ListN.{length, take, length-append, length-map}
 use lib.Seq.{length-take-le}
 use lib.Dec.{eqb}
-use Rattle.face.specs.Faces.{triangle}
+use Rattle.triangles.specs.Triangles.{triangle}
 use Rattle.lid.specs.declared.Flat.{Flat}
 use Rattle.lid.specs.declared.Clipped.{Clipped}
 use Rattle.lid.specs.Log.{Entry, entry}

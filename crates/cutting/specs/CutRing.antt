@@ -1,7 +1,7 @@
 -- What is written of a ring that is clipped. Definitions only.
 use Prim.Native.Nat.{ℕ}
 use mathlib.Core.List.{List, _++_, map}
-use Rattle.face.specs.Faces.{Triangle}
+use Rattle.triangles.specs.Triangles.{Triangle}
 use Rattle.lid.specs.declared.Flat.{Flat}
 use Rattle.lid.specs.Log.{Entry, entry, Logged}
 use Rattle.lid.specs.Lid.{earsOf, lastTriangle}

@@ -13,7 +13,7 @@ use Rattle.coords.specs.Buffers.{vertexNumbers, verticesIn}
 use Rattle.coords.proofs.Buffers.{vertices-size, vertices-back}
 use Rattle.face.specs.declared.Tally.{Tally}
 use Rattle.face.specs.Faces.{TriangleLow, fan}
-use Rattle.offering.specs.Triangles.{trianglesIn}
+use Rattle.triangles.specs.Triangles.{trianglesIn}
 use Rattle.face.specs.Drawing.{Drawing, Drew, Room, faceIn}
 use Rattle.face.proofs.Corners.{fan-low}
 use Rattle.shapes.specs.Shapes.{endFace}

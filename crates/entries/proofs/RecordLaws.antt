@@ -6,7 +6,7 @@ use lib.ListN.{length}
 use lib.Seq.{sets}
 use Rattle.lists.specs.Loops.{join}
 use Rattle.lists.proofs.Stores.{records-behind}
-use Rattle.face.specs.Faces.{Triangle}
+use Rattle.triangles.specs.Triangles.{Triangle}
 use Rattle.lid.specs.Log.{Entry, entryRecord, logNumbers}
 use Rattle.lid.specs.Written.{triangleRecord, triangleNumbers, logWith, trianglesWith}
 

@@ -2,7 +2,7 @@
 ghost use mathlib.Core.Path.{_≡_};
 ghost use mathlib.Core.List.{_∷_, []};
 ghost use Prim.Native.Nat.{_*_};
-ghost use Rattle.face.specs.Faces.{triangle};
+ghost use Rattle.triangles.specs.Triangles.{triangle};
 ghost use Rattle.lid.specs.Log.{entry};
 ghost use Rattle.lid.specs.Written.{logWith, trianglesWith};
 use numbers::put_four;

@@ -21,7 +21,7 @@ use Rattle.coords.specs.Buffers.{vertexNumbers, normalNumbers}
 use Rattle.face.specs.declared.Tally.{Tally}
 use Rattle.face.specs.Faces.{Triangle, triangle, Face, thinIn, keptOf, faceNormal, nothing, behind, numbered, writeKept, writeFace, writeFaces}
 use Rattle.offering.specs.declared.Sum.{Sum}
-use Rattle.offering.specs.Triangles.{triangleRecord, triangleAt, trianglesIn}
+use Rattle.triangles.specs.Triangles.{triangleRecord, triangleAt, trianglesIn}
 use Rattle.offering.specs.Offered.{Offered, offered, noSum, offerAll}
 use Rattle.face.specs.Drawing.{tally, Drawing, drawing, counted, drawn, countedWith, verticesWith, normalsWith, Drew}
 use Rattle.face.proofs.Counts.{face-account}

@@ -13,7 +13,7 @@ use Rattle.coords.specs.declared.Point.{Point}
 use Rattle.coords.specs.Buffers.{vertexNumbers, normalNumbers, verticesIn}
 use Rattle.face.specs.declared.Tally.{Tally}
 use Rattle.face.specs.Faces.{Face, thinIn, keptOf, writeFaces}
-use Rattle.offering.specs.Triangles.{trianglesIn}
+use Rattle.triangles.specs.Triangles.{trianglesIn}
 use Rattle.offering.specs.declared.Sum.{Sum}
 
 abbrev pub tally : ℕ → ℕ → ℕ → Tally

@@ -11,7 +11,7 @@ use Rattle.coords.specs.declared.Point.{Point}
 use Rattle.vectors.specs.declared.Vector.{Vector}
 use Rattle.vectors.specs.Vectors.{zeroV, unitZ, plus, less, dot, cross, norm, normalizeOr}
 use Rattle.coords.specs.Coords.{origin, diff}
-pub use Rattle.offering.specs.Triangles.{Triangle, triangle, TriangleLow}
+pub use Rattle.triangles.specs.Triangles.{Triangle, triangle, TriangleLow}
 
 -- `part` names the part of the object that the face belongs to: 1 walls and sides, 2 lid, 3 floor, 4 caps, 11 to 16 a box's faces
 pub record Face : Type 0 where

@@ -6,7 +6,7 @@ ghost use lib.Dec.{eqb};
 ghost use lib.ListN.{length};
 ghost use Rattle.lists.specs.Each.{Each};
 ghost use Rattle.coords.specs.Buffers.{verticesIn};
-ghost use Rattle.offering.specs.Triangles.{TriangleLow, trianglesIn};
+ghost use Rattle.triangles.specs.Triangles.{TriangleLow, trianglesIn};
 ghost use Rattle.face.specs.Faces.{quad};
 ghost use Rattle.face.specs.Drawing.{drawing, faceIn, countedWith, verticesWith, normalsWith, Drew, Room};
 use coords::Point;

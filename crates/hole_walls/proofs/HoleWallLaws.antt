@@ -16,7 +16,7 @@ use Rattle.fields.specs.Fields.{cornersAt, holesAt}
 use Rattle.scene.proofs.Parts.{corners-length}
 use Rattle.face.specs.Faces.{Face}
 use Rattle.face.specs.Drawing.{Drawing, drawn, Drew, Room}
-use Rattle.lid.specs.Plane.{about}
+use Rattle.flattening.specs.Plane.{about}
 use Rattle.shapes.specs.Shapes.{walls, holeWalls}
 use Rattle.walls.proofs.WallLaws.{walls-room}
 use Rattle.walls.proofs.Drawings.{left-to-draw, none-to-draw}

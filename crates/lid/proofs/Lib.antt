@@ -3,4 +3,3 @@ pub mod Entries
 pub mod Areas
 pub mod Facts
 pub mod Planes
-pub mod Flats

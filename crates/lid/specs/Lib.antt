@@ -1,4 +1,3 @@
-pub mod Plane
 pub mod Log
 pub mod Rings
 pub mod Bridges

@@ -7,12 +7,8 @@ use lib.ListN.{length, getD, take, drop}
 use lib.Dec.{eqb}
 use lib.Ieee.{lt}
 use Rattle.lists.specs.Loops.{removeAt}
-use Rattle.float.specs.Number.{zerof, halff}
-use Rattle.float.specs.Signs.{magnitude, signum}
-use Rattle.coords.specs.declared.Point.{Point}
-use Rattle.vectors.specs.declared.Vector.{Vector}
-use Rattle.vectors.specs.Vectors.{unitX, unitZ, plus, scale, dot, cross, normalizeOr}
-use Rattle.coords.specs.Coords.{diff}
+use Rattle.float.specs.Number.{zerof}
+use Rattle.float.specs.Signs.{signum}
 use Rattle.lid.specs.declared.Flat.{Flat}
 use Rattle.lid.specs.declared.CornerNumber.{CornerNumber}
 use Rattle.lid.specs.declared.Corners.{Corners}
@@ -20,7 +16,6 @@ use Rattle.lid.specs.declared.Ray.{Ray}
 use Rattle.lid.specs.declared.Clipped.{Clipped}
 use Rattle.lid.specs.Log.{Entry, entry, Logged}
 use Rattle.lid.specs.Written.{logWith, trianglesWith}
-use Rattle.lid.specs.Plane.{lidSide}
 use Rattle.lid.specs.Rings.{corner, turn, turnOuter, turnHole}
 use Rattle.lid.specs.Clipping.{before, here, after}
 use Rattle.lid.specs.Lid.{earsOf}
@@ -71,23 +66,3 @@ pub record Clips (k : Logged) (ring′ log log′ : List ℕ) (n : ℕ) (triangl
 
 unfoldable pub insertAt : ℕ → ℕ → List ℕ → List ℕ
 insertAt i v l = take i l ++ v ∷ drop i l
-
--- ---- the plane, corner by corner
-
--- `areaNormalStep` at the corners p and q of a polygon, the first of which is `first`
-abbrev pub areaNormalAt : Point → Point → Point → Vector → Vector
-areaNormalAt first p q sum = plus sum (cross (diff p first) (diff q first))
-
--- `lidNormal` from the vector area of the tops and the sum of the rises, and `about` from the vector area of the bases
-abbrev pub lidNormalFrom : Vector → Vector → Vector
-lidNormalFrom area rise = lidSide (normalizeOr area unitZ) (dot (normalizeOr area unitZ) rise)
-
-abbrev pub aboutFrom : Vector → Vector → Vector
-aboutFrom area lid = scale lid (signum (dot area lid))
-
-abbrev pub axisAcross : Vector → Vector
-axisAcross lid = cond (lt halff (magnitude (lid .z))) unitX unitZ
-
--- a top as `flatten` has it
-abbrev pub flatOn : Point → Vector → Vector → Point → Flat
-flatOn first e1 e2 p = record { u = dot (diff p first) e1; v = dot (diff p first) e2 }

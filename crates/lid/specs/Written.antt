@@ -5,8 +5,8 @@ use mathlib.Core.List.{List}
 use lib.ListN.{length}
 use lib.Seq.{sets}
 use Rattle.lists.specs.Loops.{join, sumOf}
-use Rattle.face.specs.Faces.{Triangle}
-pub use Rattle.offering.specs.Triangles.{triangleRecord}
+use Rattle.triangles.specs.Triangles.{Triangle}
+pub use Rattle.triangles.specs.Triangles.{triangleRecord}
 use Rattle.lid.specs.declared.LidCounts.{LidCounts}
 use Rattle.lid.specs.Log.{Entry, logNumbers}
 

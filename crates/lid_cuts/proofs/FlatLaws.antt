@@ -16,12 +16,12 @@ use Rattle.vectors.specs.Vectors.{cross}
 use Rattle.fields.specs.Fields.{pointAt, cornersAt, countsAt, holesAt}
 use Rattle.scene.proofs.Parts.{corners-length, holes-size, outline-corners}
 use Rattle.lid.specs.declared.Flat.{Flat}
-use Rattle.lid.specs.Plane.{topsOf, lidNormal, firstAxis, flatten}
+use Rattle.flattening.specs.Plane.{topsOf, lidNormal, firstAxis, flatten}
 use Rattle.lid.specs.Rings.{flats, flat0}
 use Rattle.lid.specs.Lid.{Lid, lidOf}
 use Rattle.lid.specs.declared.LidCounts.{LidCounts}
 use Rattle.lid.specs.Written.{WritesLid}
-use Rattle.lid.specs.Steps.{flatOn}
+use Rattle.flattening.specs.Steps.{flatOn}
 use Rattle.shapes.specs.Shapes.{allCorners, flatOf, outlineLid}
 use Rattle.corners.specs.declared.OutlineAt.{OutlineAt}
 use Rattle.corners.specs.Outlines.{pointsAt, cornersOf, holeCorners, lidAt, Measured}

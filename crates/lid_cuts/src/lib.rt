@@ -3,7 +3,7 @@ ghost use mathlib.Core.Path.{_≡_};
 ghost use Prim.Native.Nat.{_+_, _*_, _<_, _≤_};
 ghost use lib.ListN.{length, take, drop};
 ghost use Rattle.fields.specs.Fields.{countsAt};
-ghost use Rattle.lid.specs.Plane.{flatten};
+ghost use Rattle.flattening.specs.Plane.{flatten};
 ghost use Rattle.lid.specs.Rings.{flats};
 ghost use Rattle.lid.specs.Written.{WritesLid};
 ghost use Rattle.corners.specs.Outlines.{pointsAt, PointsIn, lidAt, Measured};

@@ -21,7 +21,7 @@ use Rattle.scene.proofs.Parts.{holes-length, counts-length, corners-count}
 use Rattle.buffers.proofs.Vertices.{length-vertices}
 use Rattle.face.specs.declared.Tally.{Tally}
 use Rattle.face.specs.Faces.{Triangle, TriangleLow}
-use Rattle.offering.specs.Triangles.{triangleAt, trianglesIn}
+use Rattle.triangles.specs.Triangles.{triangleAt, trianglesIn}
 use Rattle.face.specs.Drawing.{Drawing, Drew, Room}
 use Rattle.face.proofs.Draws.{drew-room, room-less}
 use Rattle.face.proofs.OneFace.{length-triangles}

@@ -9,7 +9,7 @@ ghost use Rattle.lists.specs.Each.{Each};
 ghost use Rattle.coords.specs.Buffers.{vertexNumbers};
 ghost use Rattle.fields.specs.Fields.{cornersAt};
 ghost use Rattle.face.specs.Faces.{TriangleLow};
-ghost use Rattle.offering.specs.Triangles.{trianglesIn};
+ghost use Rattle.triangles.specs.Triangles.{trianglesIn};
 ghost use Rattle.face.specs.Drawing.{drawing, Drew, Room};
 ghost use Rattle.lid.specs.Written.{logWith};
 ghost use Rattle.shapes.specs.Shapes.{hasHeight, lidFaces};

@@ -13,8 +13,8 @@ use Rattle.vectors.specs.Vectors.{zeroV}
 use Rattle.coords.specs.Coords.{origin}
 use Rattle.object.specs.declared.Corner.{Corner}
 use Rattle.fields.specs.Fields.{pointAt, cornerAt}
-use Rattle.lid.specs.Plane.{areaNormalStep, areaNormal}
-use Rattle.lid.specs.Steps.{areaNormalAt}
+use Rattle.flattening.specs.Plane.{areaNormalStep, areaNormal}
+use Rattle.flattening.specs.Steps.{areaNormalAt}
 use Rattle.corners.specs.Outlines.{pointsAt}
 use Rattle.corners.proofs.CornerLaws.{points-length, points-get, points-first}
 

@@ -2,7 +2,7 @@
 // Corners are read where they lie in the scene's bytes, each once.
 ghost use mathlib.Core.Path.{_≡_};
 ghost use Rattle.fields.specs.Fields.{cornersAt};
-ghost use Rattle.lid.specs.Plane.{areaNormal, lidNormal, about};
+ghost use Rattle.flattening.specs.Plane.{areaNormal, lidNormal, about};
 ghost use Rattle.corners.specs.Outlines.{pointsAt, CornersIn, PointsIn};
 use corners::next_place;
 use geometry::corner_at;

@@ -14,7 +14,7 @@ use Rattle.vectors.specs.declared.Vector.{Vector}
 use Rattle.offering.specs.declared.Side.{Side}
 use Rattle.offering.specs.declared.Side.the-variants.{Thin, Front, Back}
 use Rattle.offering.specs.declared.Sum.{Sum}
-use Rattle.offering.specs.Triangles.{Triangle, triangle, TriangleLow}
+use Rattle.triangles.specs.Triangles.{Triangle, triangle, TriangleLow}
 use Rattle.offering.specs.Offered.{sideOf, sideIn, cornersOf, gathered, Offered, offered, noSum, offerOne, offerAll}
 
 -- each triangle counts once

@@ -15,7 +15,7 @@ use Rattle.coords.specs.Coords.{origin, diff}
 use Rattle.offering.specs.declared.Side.{Side}
 use Rattle.offering.specs.declared.Side.the-variants.{Thin, Front, Back}
 use Rattle.offering.specs.declared.Sum.{Sum}
-use Rattle.offering.specs.Triangles.{Triangle}
+use Rattle.triangles.specs.Triangles.{Triangle}
 
 -- ---- one triangle
 

@@ -7,7 +7,7 @@ ghost use lib.ListN.{length};
 ghost use lib.Seq.{sets};
 ghost use Rattle.lists.specs.Each.{Each};
 ghost use Rattle.coords.specs.Buffers.{verticesIn};
-ghost use Rattle.offering.specs.Triangles.{triangle, TriangleLow, triangleAt, trianglesIn};
+ghost use Rattle.triangles.specs.Triangles.{triangle, TriangleLow, triangleAt, trianglesIn};
 ghost use Rattle.offering.specs.Offered.{sideOf, sideIn, cornersOf, gathered, offered, offerOne, offerAll};
 use coords::Point;
 use vectors::Vector;

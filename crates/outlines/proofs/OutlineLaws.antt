@@ -18,7 +18,7 @@ use Rattle.face.specs.Faces.{Face}
 use Rattle.face.specs.Drawing.{Drawing, tally, drawing, Drew, Room}
 use Rattle.face.proofs.Counts.{count}
 use Rattle.face.proofs.Draws.{drew-room, then}
-use Rattle.lid.specs.Plane.{lidNormal, about}
+use Rattle.flattening.specs.Plane.{lidNormal, about}
 use Rattle.lid.specs.Lid.{Lid, lidPrice}
 use Rattle.lid.specs.Log.{logNumbers}
 use Rattle.lid.specs.Written.{logWith}

@@ -3,7 +3,7 @@ use mathlib.Core.Bool.{Bool, false, cond}
 use Prim.Native.Nat.{ℕ, _+_}
 use mathlib.Core.List.{List}
 use Rattle.fields.specs.Fields.{cornersAt}
-use Rattle.lid.specs.Plane.{lidNormal}
+use Rattle.flattening.specs.Plane.{lidNormal}
 use Rattle.shapes.specs.Shapes.{hasHeight}
 use Rattle.corners.specs.declared.OutlineAt.{OutlineAt}
 use Rattle.corners.specs.Outlines.{cornersOf, holeCorners}

@@ -7,7 +7,7 @@ ghost use Rattle.lists.specs.Loops.{join};
 ghost use Rattle.vectors.specs.Vectors.{zeroV};
 ghost use Rattle.fields.specs.Fields.{cornersAt, countsAt, holesAt};
 ghost use Rattle.face.specs.Drawing.{tally, drawing, Drew, Room};
-ghost use Rattle.lid.specs.Plane.{about};
+ghost use Rattle.flattening.specs.Plane.{about};
 ghost use Rattle.shapes.specs.Shapes.{outerWalls, holeWalls};
 ghost use Rattle.shapes.specs.Drawn.{DrewObject};
 ghost use Rattle.corners.specs.Outlines.{CornersIn, outlineShape, Placed, Measured};

@@ -2,8 +2,8 @@
 use mathlib.Core.Path.{_≡_, refl}
 use mathlib.Core.List.{List}
 use Rattle.object.specs.declared.Corner.{Corner}
-use Rattle.lid.specs.Plane.{areaNormal, topsOf, rise, lidNormal}
-use Rattle.lid.specs.Steps.{lidNormalFrom}
+use Rattle.flattening.specs.Plane.{areaNormal, topsOf, rise, lidNormal}
+use Rattle.flattening.specs.Steps.{lidNormalFrom}
 
 pub normal-from : (cs : List Corner) → lidNormalFrom (areaNormal (topsOf cs)) (rise cs) ≡ lidNormal cs
 unfolding lidNormal

@@ -1,7 +1,7 @@
 // The steps of `lid_normal`: a caller reads an outline's corners one at a time.
 ghost use mathlib.Core.Path.{_≡_};
-ghost use Rattle.lid.specs.Plane.{riseStep};
-ghost use Rattle.lid.specs.Steps.{areaNormalAt, lidNormalFrom};
+ghost use Rattle.flattening.specs.Plane.{riseStep};
+ghost use Rattle.flattening.specs.Steps.{areaNormalAt, lidNormalFrom};
 use coords::Point;
 use lid::MIN_AREA;
 use object::Corner;

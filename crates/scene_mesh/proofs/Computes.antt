@@ -12,6 +12,7 @@ use Rattle.object.proofs.Computes.{computes as object-computes}
 use Rattle.scene.proofs.Computes.{computes as scene-computes}
 use Rattle.face.proofs.Computes.{computes as face-computes}
 use Rattle.lid.proofs.Computes.{computes as lid-computes}
+use Rattle.flattening.proofs.Computes.{computes as flattening-computes}
 use Rattle.shapes.proofs.Computes.{computes as shapes-computes}
 use Rattle.validation.proofs.Computes.{computes as validation-computes}
 use Rattle.mesh.proofs.Computes.{computes as mesh-computes}
@@ -21,5 +22,5 @@ unfolding ofInt toBits keptBy thinBy accountOf pieceOf spanOf addPiece meshFrom 
 computes = tt
 
 unfoldable pub all : Unit {0}
-unfolding computes lists-computes float-computes coords-computes circle-computes object-computes scene-computes face-computes lid-computes shapes-computes validation-computes mesh-computes
+unfolding computes lists-computes float-computes coords-computes circle-computes object-computes scene-computes face-computes lid-computes flattening-computes shapes-computes validation-computes mesh-computes
 all = tt

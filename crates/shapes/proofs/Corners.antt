@@ -19,7 +19,7 @@ use Rattle.object.specs.declared.Section.{Section}
 use Rattle.object.specs.declared.Orientation.{Orientation}
 use Rattle.object.specs.Object.{Shape, solid, outline, sweep, roundSweep, frame}
 use Rattle.face.specs.Faces.{TriangleLow, FaceLow, Triangle, Face}
-use Rattle.lid.specs.Plane.{topsOf, basesOf, lidNormal, about}
+use Rattle.flattening.specs.Plane.{topsOf, basesOf, lidNormal, about}
 use Rattle.shapes.specs.Shapes.{Axis, alongX, alongY, alongZ, boxFace, boxSides, box, cylinderSide, endFace, cylinderFaces, cylinder, ringAt, ringPoint, solidFaces, wall, walls, outerWalls, holeWalls, allCorners, flatOf, outlineLid, hasHeight, lidFaces, outlineFaces, isThinSection, isFlatSection, pairFaces, pairs, cap, sweepCaps, sweepFaces, Ellipse, ellipse0, ellipse, tubeSide, tubeFaces, tubeCaps, roundSweepFaces, facesOf}
 use Rattle.lists.proofs.Lists.{length-list, each-append, each-list, each-join, each-map, each-at, each-any}
 use Rattle.lists.proofs.Loops.{either}

@@ -18,7 +18,7 @@ use Rattle.object.specs.declared.Section.{Section}
 use Rattle.object.specs.declared.Orientation.{Orientation}
 use Rattle.object.specs.Object.{Shape, solid, outline, sweep, roundSweep, frame}
 use Rattle.face.specs.Faces.{Triangle, Face, fan, quad}
-use Rattle.lid.specs.Plane.{basesOf, lidNormal, about}
+use Rattle.flattening.specs.Plane.{basesOf, lidNormal, about}
 use Rattle.lid.specs.Lid.{lidPrice}
 use Rattle.shapes.specs.Price.{lessFor, solidPrice, outlinePrice, pairPrice, pairsPrice, capsPrice, offered}
 use Rattle.shapes.specs.Shapes.{Axis, alongX, alongY, alongZ, onAxis, boxFace, boxSides, box, cylinderSide, endFace, cylinderFaces, cylinder, ringAt, solidFaces, wall, walls, outerWalls, holeWalls, allCorners, flatOf, outlineLid, hasHeight, lidFaces, outlineFaces, isThinSection, isFlatSection, pairFaces, pairs, cap, sweepCaps, sweepFaces, Ellipse, ellipse, tubeSide, tubeFaces, tubeCaps, roundSweepFaces, facesOf}

@@ -28,7 +28,7 @@ use Rattle.scene.proofs.Parts.{holes-length, corners-count, sections-length, co
 use Rattle.face.specs.Faces.{Triangle, Face, quad, fan}
 use Rattle.face.specs.Drawing.{tally, Room}
 use Rattle.face.proofs.Counts.{count}
-use Rattle.lid.specs.Plane.{topsOf, basesOf, lidNormal, about}
+use Rattle.flattening.specs.Plane.{topsOf, basesOf, lidNormal, about}
 use Rattle.lid.specs.Rings.{turnOf}
 use Rattle.lid.specs.Log.{Entry, isMark, leftOver}
 use Rattle.lid.specs.Lid.{oneMore, lidPrice}

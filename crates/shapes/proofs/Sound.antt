@@ -20,7 +20,7 @@ use Rattle.object.specs.declared.Section.{Section}
 use Rattle.object.specs.declared.Orientation.{Orientation}
 use Rattle.object.specs.Object.{Shape, solid, outline, sweep, roundSweep}
 use Rattle.face.specs.Faces.{Triangle, quad}
-use Rattle.lid.specs.Plane.{topsOf, basesOf, lidNormal, about}
+use Rattle.flattening.specs.Plane.{topsOf, basesOf, lidNormal, about}
 use Rattle.shapes.specs.Shapes.{Axis, alongX, alongY, alongZ, onAxis, boxPoint, boxFace, boxSides, box, ringAt, cylinderSide, endFace, cylinderFaces, cylinder, solidFaces, corner0, wall, walls, outerWalls, holeWalls, allCorners, outlineLid, hasHeight, lidFaces, outlineFaces, isThinSection, isFlatSection, pairFaces, pairs, cap, sweepCaps, sweepFaces, section0, Ellipse, ellipse, ellipse0, tubeSide, tubeFaces, tubeCaps, roundSweepFaces, facesOf}
 use Rattle.lists.proofs.Lists.{each-at, each-list, each-append, each-getD, each-cond, each-map, each-join, each-imp}
 use Rattle.float.proofs.Within.{Within}

@@ -19,7 +19,7 @@ use Rattle.object.specs.declared.Orientation.{Orientation}
 use Rattle.object.specs.Object.{frame, Shape, solid, outline, sweep, roundSweep}
 use Rattle.face.specs.Faces.{Triangle, Face, fan, quad}
 use Rattle.lid.specs.declared.Flat.{Flat}
-use Rattle.lid.specs.Plane.{topsOf, basesOf, lidNormal, about, flatten}
+use Rattle.flattening.specs.Plane.{topsOf, basesOf, lidNormal, about, flatten}
 use Rattle.lid.specs.Log.{Entry}
 use Rattle.lid.specs.Lid.{Lid, lidOf}
 

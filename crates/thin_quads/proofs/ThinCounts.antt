@@ -14,7 +14,7 @@ use Rattle.vectors.specs.declared.Vector.{Vector}
 use Rattle.vectors.specs.Vectors.{dot, cross, norm}
 use Rattle.offering.specs.declared.Side.the-variants.{Thin, Front, Back}
 use Rattle.offering.specs.declared.Sum.{Sum}
-use Rattle.offering.specs.Triangles.{triangle}
+use Rattle.triangles.specs.Triangles.{triangle}
 use Rattle.offering.specs.Offered.{sideOf, sideIn, gathered, noSum, offerOne, offerAll}
 
 module _ (limit : Float) (out : Vector) where

@@ -6,7 +6,7 @@ ghost use lib.Ieee.{lt};
 ghost use Rattle.vectors.specs.declared.Vector.{Vector};
 ghost use Rattle.vectors.specs.Vectors.{cross, norm};
 ghost use Rattle.coords.specs.Coords.{diff};
-ghost use Rattle.offering.specs.Triangles.{triangle};
+ghost use Rattle.triangles.specs.Triangles.{triangle};
 ghost use Rattle.offering.specs.Offered.{offerAll};
 use coords::Point;
 

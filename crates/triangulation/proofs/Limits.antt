@@ -15,7 +15,7 @@ use Rattle.lists.specs.Loops.{list, over}
 use Rattle.lists.proofs.Lists.{join-size}
 use Rattle.lists.proofs.Loops.{either}
 use Rattle.float.specs.Number.{zerof}
-use Rattle.face.specs.Faces.{Triangle, triangle}
+use Rattle.triangles.specs.Triangles.{Triangle, triangle}
 use Rattle.lid.specs.declared.Flat.{Flat}
 use Rattle.lid.specs.Log.{Entry, entry, entryRecord, logNumbers, Logged}
 use Rattle.lid.specs.Rings.{turnOf, tooSmall, ringsFrom, skippedFrom}

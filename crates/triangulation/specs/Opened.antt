@@ -5,7 +5,7 @@ use mathlib.Core.List.{List, _++_, map}
 use lib.ListN.{length, take}
 use Rattle.lists.specs.Each.{Each}
 use Rattle.lists.specs.Loops.{list, sumOf}
-use Rattle.face.specs.Faces.{Triangle}
+use Rattle.triangles.specs.Triangles.{Triangle}
 use Rattle.lid.specs.declared.Flat.{Flat}
 use Rattle.lid.specs.declared.Prepared.{Prepared}
 use Rattle.lid.specs.Log.{Entry, Logged}

@@ -17,7 +17,7 @@ use Rattle.scene.proofs.Parts.{corners-get, corners-length}
 use Rattle.face.specs.Faces.{Face, quad, fan}
 use Rattle.face.specs.Drawing.{Drawing, tally, Drew, Room}
 use Rattle.face.proofs.Draws.{drew-room}
-use Rattle.lid.specs.Plane.{about}
+use Rattle.flattening.specs.Plane.{about}
 use Rattle.shapes.specs.Shapes.{corner0, wall, walls, outerWalls}
 use Rattle.shapes.proofs.Sizes.{walls-points}
 use Rattle.shapes.proofs.Prices.{walls-count}

@@ -1,6 +1,6 @@
 -- `axes::first_axis` meets its contract. Assumes nothing.
 use Prim.Native.Nat.{_-_}
-use Rattle.lid.specs.Plane.{firstAxis}
+use Rattle.flattening.specs.Plane.{firstAxis}
 use Rattle.axes.proofs.first_axis.Statement.{statement}
 use Rattle.axes.proofs.first_axis.Tie as tie
 

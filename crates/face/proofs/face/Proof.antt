@@ -5,7 +5,7 @@ use Rattle.buffers.proofs.Vertices.{length-vertices}
 use Rattle.coords.specs.Buffers.{verticesIn}
 use Rattle.face.proofs.OneFace.{length-triangles, all-counted, face-drawn}
 use Rattle.offering.specs.Offered.{offered}
-use Rattle.offering.specs.Triangles.{trianglesIn}
+use Rattle.triangles.specs.Triangles.{trianglesIn}
 use Rattle.face.proofs.face.Statement.{statement}
 use Rattle.face.proofs.face.Tie as tie
 

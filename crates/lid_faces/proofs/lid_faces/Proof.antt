@@ -4,7 +4,7 @@ use Prim.Native.Nat.{_+_, _-_, _/_}
 use native.Mathlib.Omega.{arith}
 use lib.ListN.{length}
 use lib.Seq.{length-take-le}
-use Rattle.offering.specs.Triangles.{trianglesIn}
+use Rattle.triangles.specs.Triangles.{trianglesIn}
 use Rattle.face.proofs.Draws.{then, room-less}
 use Rattle.face.proofs.OneFace.{length-triangles}
 use Rattle.corners.proofs.CornerLaws.{bases-points, tops-points, points-length}

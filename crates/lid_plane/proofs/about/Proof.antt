@@ -4,8 +4,8 @@ use Prim.Native.Nat.{_-_}
 use native.Mathlib.Omega.{arith}
 use Rattle.vectors.specs.declared.Vector.{Vector}
 use Rattle.axes.proofs.AboutLaws.{about-from}
-use Rattle.lid.specs.Plane.{areaNormal}
-use Rattle.lid.specs.Steps.{aboutFrom}
+use Rattle.flattening.specs.Plane.{areaNormal}
+use Rattle.flattening.specs.Steps.{aboutFrom}
 use Rattle.fields.specs.Fields.{cornersAt}
 use Rattle.corners.proofs.CornerLaws.{bases-points}
 use Rattle.lid_plane.proofs.about.Statement.{statement}

@@ -4,8 +4,8 @@ use Prim.Native.Nat.{ℕ, _<_, _≤_, _+_, _-_, _*_}
 use native.Mathlib.Omega.{arith}
 use Rattle.coords.specs.declared.Point.{Point}
 use Rattle.fields.specs.Fields.{pointAt}
-use Rattle.lid.specs.Plane.{areaNormalStep, areaNormal}
-use Rattle.lid.specs.Steps.{areaNormalAt}
+use Rattle.flattening.specs.Plane.{areaNormalStep, areaNormal}
+use Rattle.flattening.specs.Steps.{areaNormalAt}
 use Rattle.lists.proofs.Loops.{loop-next, loop-end}
 use Rattle.lists.proofs.Places.{next-inside}
 use Rattle.lists.specs.Loops.{list, loop}

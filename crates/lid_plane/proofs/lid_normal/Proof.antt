@@ -10,8 +10,8 @@ use Rattle.vectors.specs.declared.Vector.{Vector}
 use Rattle.vectors.specs.Vectors.{zeroV}
 use Rattle.object.specs.declared.Corner.{Corner}
 use Rattle.fields.specs.Fields.{cornerAt, cornersAt}
-use Rattle.lid.specs.Plane.{topsOf, areaNormalStep, areaNormal, riseStep, rise, lidNormal}
-use Rattle.lid.specs.Steps.{lidNormalFrom}
+use Rattle.flattening.specs.Plane.{topsOf, areaNormalStep, areaNormal, riseStep, rise, lidNormal}
+use Rattle.flattening.specs.Steps.{lidNormalFrom}
 use Rattle.plane.proofs.PlaneLaws.{normal-from}
 use Rattle.corners.specs.Outlines.{pointsAt}
 use Rattle.corners.proofs.CornerLaws.{tops-points}

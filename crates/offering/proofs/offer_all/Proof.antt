@@ -6,7 +6,7 @@ use lib.ListN.{length}
 use Rattle.buffers.proofs.Vertices.{length-vertices}
 use Rattle.coords.specs.Buffers.{verticesIn}
 use Rattle.offering.proofs.OneOffered.{one-counted, low-at}
-use Rattle.offering.specs.Triangles.{triangleAt, trianglesIn}
+use Rattle.triangles.specs.Triangles.{triangleAt, trianglesIn}
 use Rattle.offering.specs.Offered.{offered, offerOne, offerAll, noSum}
 use Rattle.lists.proofs.Loops.{fold-start, fold-next, fold-end}
 use Rattle.lists.specs.Loops.{list, fold}

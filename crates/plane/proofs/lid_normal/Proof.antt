@@ -1,8 +1,8 @@
 -- `plane::lid_normal` meets its contract. Assumes nothing.
 use mathlib.Core.Path.{_≡_, _∙_}
 use Prim.Native.Nat.{_-_}
-use Rattle.lid.specs.Plane.{lidSide}
-use Rattle.lid.specs.Steps.{lidNormalFrom}
+use Rattle.flattening.specs.Plane.{lidSide}
+use Rattle.flattening.specs.Steps.{lidNormalFrom}
 use Rattle.plane.proofs.lid_normal.Statement.{statement}
 use Rattle.plane.proofs.lid_normal.Tie as tie
 

@@ -18,7 +18,7 @@ use Rattle.scene_mesh.specs.Mesh.{accountOf, logsOf}
 use Rattle.lists.proofs.Lists.{each-imp}
 use Rattle.object.proofs.Near.{NearShape}
 use Rattle.lid.proofs.Areas.Lid.{lid-conserves}
-use Rattle.lid.proofs.Flats.{NearF}
+use Rattle.flattening.proofs.Flats.{NearF}
 use Rattle.shapes.proofs.Flats.{FlatShape, flat-shape}
 
 known : (x : Float) → T (finite x) → isFinite x ≡ true

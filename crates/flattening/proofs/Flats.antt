@@ -18,9 +18,9 @@ use Rattle.vectors.specs.declared.Vector.{Vector}
 use Rattle.vectors.specs.Vectors.{zeroV, unitX, unitZ, plus, less, scale, negate, dot, cross, normalizeOr}
 use Rattle.coords.specs.Coords.{origin, diff}
 use Rattle.object.specs.declared.Corner.{Corner}
 use Rattle.lid.specs.declared.Flat.{Flat}
-use Rattle.lid.specs.Plane.{topsOf, areaNormal, riseStep, rise, lidSide, lidNormal, firstAxis, flatten}
+use Rattle.flattening.specs.Plane.{topsOf, areaNormal, riseStep, rise, lidSide, lidNormal, firstAxis, flatten}
 use Rattle.lid.specs.Rings.{flat0, corner, turn, turnOf}
 use Rattle.lists.proofs.Lists.{each-map, each-getD}
 use Rattle.float.proofs.Within.{Within, room, room-of, sub-within, mul-within}
 use Rattle.coords.proofs.Near.{NearP, NearV, nearV-up, plus-near, less-near, opposite-near, dot-within, cross-near, diff-near, scale-near, zero-near, unitX-near, unitZ-near}

@@ -1,0 +1,1 @@
+// Triangles of points by their numbers. Definitions only.
