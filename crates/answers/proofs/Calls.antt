@@ -14,7 +14,7 @@ use Rattle.scene.specs.Scene.{Scene, refused, accepted, scene}
 use Rattle.scene.specs.Answers.{checkedOf, objectsOf}
 use Rattle.scene.proofs.Walk.{checked-accepted, checked-refused}
 use Rattle.validation.specs.declared.Validation.{Validation}
-use Rattle.mesh.specs.Validate.{validate}
+use Rattle.validation.specs.Validate.{validate}
 use Rattle.answers.specs.declared.Counted.{Counted}
 use Rattle.answers.specs.declared.Measured.the-variants.{Refused as NotMeasured, Counts as CountsAre}
 use Rattle.answers.specs.declared.BuiltAnswer.the-variants.{Refused}

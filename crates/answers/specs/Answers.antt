@@ -10,7 +10,7 @@ use lib.Ieee.{Float}
 use Rattle.object.specs.Object.{Object}
 use Rattle.scene.specs.Scene.{numberOf}
 use Rattle.validation.specs.declared.Validation.{Validation}
-use Rattle.mesh.specs.Validate.{validate}
+use Rattle.validation.specs.Validate.{validate}
 use Rattle.answers.specs.declared.Counted.{Counted}
 use Rattle.answers.specs.declared.Lengths.{Lengths}
 use Rattle.answers.specs.declared.Measured.{Measured}

@@ -104,12 +104,12 @@ fn box_sides(
 {
     let out = direction(b.turn, axis);
     let p = box_face(b, axis, 1.0, out);
-    let u = face::quad(p.a, p.b, p.c, p.d, p.out, limit, before, t, vs, ns, is);
+    let u = faces::quad(p.a, p.b, p.c, p.d, p.out, limit, before, t, vs, ns, is);
     if depth == 0.0 {
         return u;
     }
     let q = box_face(b, axis, 0.0, out.neg());
-    face::quad(q.a, q.b, q.c, q.d, q.out, limit, before, u, vs, ns, is)
+    faces::quad(q.a, q.b, q.c, q.d, q.out, limit, before, u, vs, ns, is)
 }
 
 // The axes by number, and how deep a box is along them.

@@ -12,7 +12,7 @@ ghost use Rattle.shapes.specs.Shapes.{ringPoint, ringAt, cylinderSide, cylinder
 use coords::Point;
 use ends::end;
 use face::Tally;
-use face::quad;
+use faces::quad;
 use object::Orientation;
 use vectors::Vector;
 

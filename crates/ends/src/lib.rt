@@ -89,5 +89,5 @@ pub fn end(
 {
     let numbers = numbers_of(ring);
     let fan = FAN;
-    face::face(&numbers, &fan, out, limit, before, t, vs, ns, is)
+    faces::face(&numbers, &fan, out, limit, before, t, vs, ns, is)
 }

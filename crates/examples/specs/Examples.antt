@@ -8,7 +8,7 @@ use lib.Dec.{eqb}
 use lib.Ieee.{Float, binary32, toBits}
 use Rattle.float.specs.Number.{zerof}
 use Rattle.validation.specs.Numbers.{validationNumbers}
-use Rattle.mesh.specs.Validate.{validate}
+use Rattle.validation.specs.Validate.{validate}
 use Rattle.scene_mesh.specs.Operations.{Buffers, Built, build}
 use Rattle.scene_mesh.specs.Samples.{same}
 

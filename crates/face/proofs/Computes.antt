@@ -1,10 +1,9 @@
--- To compute with this crate's definitions and those of `offering`, name `computes` on an `unfolding` line: it stands for all of them, and for the operations of lib.Ieee that they use.
+-- To compute with this crate's definitions, name `computes` on an `unfolding` line: it stands for all of them, and for the operations of lib.Ieee that they use.
 use lib.Ieee.{lt}
 use Rattle.face.specs.Faces.{fan, quad, normal, isThin, isTurned, facing, thinIn, keptFrom, keptOf, addNormal, normalFrom, faceNormal, nothing, behind, numbered, writeKept, writeFace, writeFaces}
 use Rattle.triangles.specs.Triangles.{trianglesIn}
-use Rattle.offering.specs.Offered.{sideOf, sideIn, cornersOf, gathered, offerOne, offerAll}
 use Rattle.face.specs.Drawing.{counted, drawn}
 
 unfoldable pub computes : Unit {0}
-unfolding lt fan quad normal isThin isTurned facing thinIn keptFrom keptOf addNormal normalFrom faceNormal nothing behind numbered writeKept writeFace writeFaces trianglesIn sideOf sideIn cornersOf gathered offerOne offerAll counted drawn
+unfolding lt fan quad normal isThin isTurned facing thinIn keptFrom keptOf addNormal normalFrom faceNormal nothing behind numbered writeKept writeFace writeFaces trianglesIn counted drawn
 computes = tt

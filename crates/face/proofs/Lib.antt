@@ -3,6 +3,4 @@ pub mod Counts
 pub mod Corners
 pub mod Written
 pub mod Good
-pub mod Offers
 pub mod Draws
-pub mod OneFace

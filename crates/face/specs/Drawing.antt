@@ -1,20 +1,16 @@
 -- What drawing faces leaves in the lent buffers and counts: the one form of contract for all that draws. Definitions only.
 use mathlib.Core.Path.{_≡_}
 use Prim.Native.Nat.{ℕ, _+_, _*_, _<_, _^_}
-use mathlib.Core.Bool.{Bool, cond}
 use mathlib.Core.List.{List}
-use lib.ListN.{length, replicate}
+use lib.ListN.{length}
 use lib.Seq.{sets}
 use lib.Ieee.{Float}
 use Rattle.lists.specs.Loops.{sumOf}
 use Rattle.vectors.specs.declared.Vector.{Vector}
-use Rattle.vectors.specs.Vectors.{unitZ, normalizeOr}
-use Rattle.coords.specs.declared.Point.{Point}
 use Rattle.coords.specs.Buffers.{vertexNumbers, normalNumbers, verticesIn}
 use Rattle.face.specs.declared.Tally.{Tally}
 use Rattle.face.specs.Faces.{Face, thinIn, keptOf, writeFaces}
 use Rattle.triangles.specs.Triangles.{trianglesIn}
-use Rattle.offering.specs.declared.Sum.{Sum}
 
 abbrev pub tally : ℕ → ℕ → ℕ → Tally
 tally vertices kept thin = record { vertices = vertices; kept = kept; thin = thin }
@@ -56,14 +52,3 @@ pub record Room (before : ℕ) (t : Tally) (v k : ℕ) : Type 0 where
 -- the face whose points and triangles are lent as numbers, three to one
 abbrev pub faceIn : ℕ → List Float → List ℕ → Vector → Face
 faceIn part points triangles out = record { points = verticesIn points; triangles = trianglesIn triangles; out = out; part = part }
-
--- ---- a face whose triangles came to a sum: its points are stored and counted unless none was kept
-
-unfoldable pub countedWith : Bool → ℕ → Sum → Tally → Tally
-countedWith none n s t = cond none (tally (t .vertices) (t .kept) (t .thin + s .thin)) (tally (t .vertices + n) (t .kept + s .kept) (t .thin + s .thin))
-
-unfoldable pub verticesWith : Bool → List Point → ℕ → List Float → List Float
-verticesWith none ps at vs = cond none vs (sets vs (3 * at) (vertexNumbers ps))
-
-unfoldable pub normalsWith : Bool → List Point → Vector → ℕ → List Float → List Float
-normalsWith none ps sum at ns = cond none ns (sets ns (3 * at) (normalNumbers (replicate (length ps) (normalizeOr sum unitZ))))

@@ -5,7 +5,7 @@ ghost use lib.ListN.{length};
 ghost use Rattle.lists.specs.Loops.{first};
 ghost use Rattle.coords.specs.Coords.{noArea};
 ghost use Rattle.coords.specs.Buffers.{verticesIn};
-ghost use Rattle.faults.specs.Faults.{notFinite, degenerate};
+ghost use Rattle.validation.specs.Faults.{notFinite, degenerate};
 use coords::Point;
 use lists::Found;
 

@@ -15,7 +15,7 @@ use Rattle.lid.specs.Log.{isMark, leftOver}
 use Rattle.lid.specs.Rings.{ringsFrom}
 use Rattle.shapes.specs.Shapes.{flatOf, outlineLid}
 use Rattle.validation.specs.Numbers.{validationNumbers}
-use Rattle.mesh.specs.Validate.{validate}
+use Rattle.validation.specs.Validate.{validate}
 use Rattle.scene_mesh.specs.Mesh.{meshOf}
 use Rattle.scene_mesh.specs.Operations.{measure, output}
 use Rattle.scene_mesh.specs.Samples.{solidBytes, solidAtX, upright, outlineBytes, thinBytes, sceneBytes, same, objectsIn}

@@ -24,7 +24,7 @@ use Rattle.face.specs.Faces.{Triangle, TriangleLow}
 use Rattle.triangles.specs.Triangles.{triangleAt, trianglesIn}
 use Rattle.face.specs.Drawing.{Drawing, Drew, Room}
 use Rattle.face.proofs.Draws.{drew-room, room-less}
-use Rattle.face.proofs.OneFace.{length-triangles}
+use Rattle.faces.proofs.OneFace.{length-triangles}
 use Rattle.lid.specs.Lid.{lidPrice}
 use Rattle.lid.specs.Written.{triangleRecord, triangleNumbers}
 use Rattle.lid.proofs.Facts.{lid-triangles, lid-corners}

@@ -53,11 +53,11 @@ fn lid_faces(
 {
     let m = 3 * (o.n as usize);
     put_points(s, o.at + 12, o.n, points);
-    let t = face::face(&points[..m], triangles, o.lid, limit, before, t, vs, ns, is);
+    let t = faces::face(&points[..m], triangles, o.lid, limit, before, t, vs, ns, is);
     if o.high {
         put_points(s, o.at, o.n, points);
         let down = o.lid.neg();
-        return face::face(&points[..m], triangles, down, limit, before, t, vs, ns, is);
+        return faces::face(&points[..m], triangles, down, limit, before, t, vs, ns, is);
     }
     t
 }

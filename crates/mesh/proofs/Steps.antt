@@ -14,7 +14,7 @@ use Rattle.coords.specs.declared.Point.{Point}
 use Rattle.coords.specs.Coords.{noArea, origin}
 use Rattle.validation.specs.declared.Verdict.{Verdict}
 use Rattle.validation.specs.declared.Verdict.the-variants.{Ok, IndexOutOfRange, DegenerateTriangle}
-use Rattle.mesh.specs.Validate.{degenerate, triangleAt, trianglesFrom, orLater}
+use Rattle.validation.specs.Validate.{degenerate, triangleAt, trianglesFrom, orLater}
 
 -- a triangle of one index, of two and of three, by its tests
 one : (t n a : ℕ) (later : Verdict) (p : Bool) → cond p (IndexOutOfRange t a n) (DegenerateTriangle t) ≡ orLater (cond p (IndexOutOfRange t a n) (cond p (IndexOutOfRange t a n) (cond p (IndexOutOfRange t a n) (DegenerateTriangle t)))) later

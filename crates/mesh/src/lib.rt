@@ -2,7 +2,7 @@
 ghost use mathlib.Core.Path.{_≡_};
 ghost use lib.ListN.{getD};
 ghost use Rattle.coords.specs.Buffers.{verticesIn};
-ghost use Rattle.mesh.specs.Validate.{triangleAt, trianglesFrom, validateAt, validate};
+ghost use Rattle.validation.specs.Validate.{triangleAt, trianglesFrom, validateAt, validate};
 use faults::degenerate;
 use faults::first_not_finite;
 use lists::Found;

@@ -1,7 +1,7 @@
 // The functions that C calls, with their answers in numbers.
 ghost use mathlib.Core.Path.{_≡_};
 ghost use Rattle.validation.specs.Numbers.{validationNumbers};
-ghost use Rattle.mesh.specs.Validate.{validate};
+ghost use Rattle.validation.specs.Validate.{validate};
 ghost use Rattle.scene_mesh.specs.Operations.{lent, measure, build};
 ghost use Rattle.answers.specs.Answers.{answerNumbers};
 use answers::Answer;

@@ -82,7 +82,7 @@ pub fn tube(
         let bj = b[j];
         let bk = b[k];
         let out = side_direction(ca, cb, ak, aj, bj, bk);
-        u = face::quad(ak, aj, bj, bk, out, limit, before, u, vs, ns, is);
+        u = faces::quad(ak, aj, bj, bk, out, limit, before, u, vs, ns, is);
         k = k + 1;
     }
     u

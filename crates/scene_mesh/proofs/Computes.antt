@@ -15,12 +15,11 @@ use Rattle.lid.proofs.Computes.{computes as lid-computes}
 use Rattle.flattening.proofs.Computes.{computes as flattening-computes}
 use Rattle.shapes.proofs.Computes.{computes as shapes-computes}
 use Rattle.validation.proofs.Computes.{computes as validation-computes}
-use Rattle.mesh.proofs.Computes.{computes as mesh-computes}
 
 unfoldable pub computes : Unit {0}
 unfolding ofInt toBits keptBy thinBy accountOf pieceOf spanOf addPiece meshFrom meshOf accountsOf logsOf spanNumbers accountNumbers spansIn accountsIn noCounts refusedWith output countsOf done measureScene measure tooShort overlay buildOutput buildScene build keptCorners indicesIn measured bytesOf f32Bytes head onePair solidBytes solidAtX cornerBytes outlineBytes thinBytes offsetsFrom sceneBytes same objectsIn
 computes = tt
 
 unfoldable pub all : Unit {0}
-unfolding computes lists-computes float-computes coords-computes circle-computes object-computes scene-computes face-computes lid-computes flattening-computes shapes-computes validation-computes mesh-computes
+unfolding computes lists-computes float-computes coords-computes circle-computes object-computes scene-computes face-computes lid-computes flattening-computes shapes-computes validation-computes
 all = tt

@@ -10,7 +10,7 @@ use Rattle.lists.specs.Loops.{every}
 use Rattle.float.specs.Number.{onef, minArea}
 use Rattle.scene.specs.Scene.{scene}
 use Rattle.validation.specs.Numbers.{validationNumbers}
-use Rattle.mesh.specs.Validate.{validate}
+use Rattle.validation.specs.Validate.{validate}
 use Rattle.scene_mesh.specs.Samples.{upright, outlineBytes, sceneBytes, objectsIn, same}
 use Rattle.scene_mesh.specs.Operations.{Buffers, Counts, build, output}
 use Rattle.scene_mesh.proofs.Computes.{all}

@@ -22,7 +22,7 @@ use Rattle.shapes.specs.Price.{offered}
 use Rattle.shapes.specs.Shapes.{facesOf, logOf, flatOf}
 use Rattle.validation.specs.declared.Validation.the-variants.{Judged}
 use Rattle.validation.specs.declared.Verdict.the-variants.{Ok, Empty}
-use Rattle.mesh.specs.Validate.{validateAt}
+use Rattle.validation.specs.Validate.{validateAt}
 use Rattle.scene_mesh.specs.Mesh.{Span, Account, spansIn, accountsIn, keptBy, thinBy, logsOf}
 use Rattle.scene_mesh.specs.Operations.{Counts, Buffers, countsOf, measure, build}
 

@@ -12,7 +12,7 @@ ghost use Rattle.fields.specs.Fields.{sectionsAt};
 ghost use Rattle.shapes.specs.Shapes.{pairFaces, sweepFaces};
 use coords::Point;
 use face::Tally;
-use face::quad;
+use faces::quad;
 use geometry::point_at;
 use geometry::section_at;
 use neighbours::places_of;

@@ -34,7 +34,7 @@ pub fn walls(
         let p = a.base;
         let out = b.base.sub(p).cross(normal);
         k += 1;
-        t = face::quad(p, b.base, b.top, a.top, out, limit, before, t, vs, ns, is);
+        t = faces::quad(p, b.base, b.top, a.top, out, limit, before, t, vs, ns, is);
     }
     t
 }

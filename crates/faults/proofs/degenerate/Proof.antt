@@ -1,5 +1,5 @@
 -- `faults::degenerate` meets its contract. Assumes nothing.
-use Rattle.faults.specs.Faults.{degenerate}
+use Rattle.validation.specs.Faults.{degenerate}
 use Rattle.buffers.proofs.Vertices.{vertex-in}
 use borrow.Author.Needs.{needs}
 use Rattle.faults.proofs.degenerate.Statement.{statement}

@@ -12,7 +12,7 @@ use Rattle.lists.specs.Loops.{first}
 use Rattle.lists.proofs.Loops.{first-start, first-found, first-next, first-end}
 use Rattle.coords.specs.Coords.{finitePoint}
 use Rattle.coords.specs.Buffers.{verticesIn}
-use Rattle.faults.specs.Faults.{notFinite}
+use Rattle.validation.specs.Faults.{notFinite}
 use Rattle.buffers.proofs.Vertices.{length-vertices, vertex-in}
 use Rattle.faults.proofs.first_not_finite.Statement.{statement}
 use Rattle.faults.proofs.first_not_finite.Tie as tie

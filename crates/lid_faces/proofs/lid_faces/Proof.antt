@@ -6,7 +6,7 @@ use lib.ListN.{length}
 use lib.Seq.{length-take-le}
 use Rattle.triangles.specs.Triangles.{trianglesIn}
 use Rattle.face.proofs.Draws.{then, room-less}
-use Rattle.face.proofs.OneFace.{length-triangles}
+use Rattle.faces.proofs.OneFace.{length-triangles}
 use Rattle.corners.proofs.CornerLaws.{bases-points, tops-points, points-length}
 use Rattle.lid_faces.proofs.LidLaws.{points-drawn, face-asks, face-room}
 use Rattle.shapes.specs.Shapes.{lidFaces}

@@ -1,7 +1,7 @@
 -- `mesh::triangle` meets its contract: its tests are the definition's, in its order. Assumes nothing.
 use borrow.Author.Tests.{le-leb, lt-leb}
 use Rattle.buffers.proofs.Vertices.{length-vertices}
-use Rattle.mesh.specs.Validate.{triangleAt}
+use Rattle.validation.specs.Validate.{triangleAt}
 use Rattle.mesh.proofs.triangle.Statement.{statement}
 use Rattle.mesh.proofs.triangle.Tie as tie
 

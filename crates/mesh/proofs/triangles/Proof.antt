@@ -9,7 +9,7 @@ use Prim.Native.Nat.{ℕ, _+_, _≤_, _-_}
 use native.Mathlib.Omega.{arith}
 use lib.ListN.{length, drop}
 use Rattle.coords.specs.Buffers.{verticesIn}
-use Rattle.mesh.specs.Validate.{trianglesFrom, orLater}
+use Rattle.validation.specs.Validate.{trianglesFrom, orLater}
 use Rattle.validation.specs.declared.Verdict.{Verdict}
 use Rattle.validation.specs.declared.Verdict.the-variants.{Ok, Empty, NonFiniteVertex, IndexOutOfRange, DegenerateTriangle}
 use Rattle.validation.proofs.Verdict.{the-type}

@@ -1,5 +1,5 @@
 -- `mesh::validate` meets its contract. Assumes nothing.
-use Rattle.mesh.specs.Validate.{validate}
+use Rattle.validation.specs.Validate.{validate}
 use borrow.Author.Needs.{needs}
 use Rattle.mesh.proofs.validate.Statement.{statement}
 use Rattle.mesh.proofs.validate.Tie as tie

@@ -3,7 +3,7 @@ use mathlib.Core.Path.{ap}
 use Prim.Native.Nat.{_%_}
 use borrow.Author.Tests.{eq-eqb, ne-eqb}
 use Rattle.validation.specs.declared.Validation.the-variants.{Judged}
-use Rattle.mesh.specs.Validate.{verdict, verdictAt, validateAt}
+use Rattle.validation.specs.Validate.{verdict, verdictAt, validateAt}
 use borrow.Author.Needs.{needs}
 use Rattle.mesh.proofs.validate_at.Statement.{statement}
 use Rattle.mesh.proofs.validate_at.Tie as tie

@@ -20,7 +20,7 @@ use Rattle.shapes.specs.Shapes.{facesOf}
 use Rattle.validation.specs.declared.Verdict.{Verdict}
 use Rattle.validation.specs.declared.Verdict.the-variants.{Ok, Empty}
 use Rattle.validation.specs.declared.Validation.the-variants.{Judged, PartialVertex}
-use Rattle.mesh.specs.Validate.{verdict, validateAt}
+use Rattle.validation.specs.Validate.{verdict, validateAt}
 use Rattle.scene_mesh.specs.Mesh.{keptBy, pieceOf, addPiece, meshFrom, meshOf}
 use Rattle.scene_mesh.specs.Operations.{output}
 use Rattle.coords.proofs.Near.{NearP}
@@ -30,7 +30,7 @@ use Rattle.object.proofs.Near.{NearShape}
 use Rattle.face.proofs.Good.{Written, together, write-faces}
 use Rattle.shapes.proofs.Corners.{faces-low}
 use Rattle.shapes.proofs.Sound.{faces-sound}
-use Rattle.mesh.proofs.Verdicts.{verdict-good}
+use Rattle.validation.proofs.Verdicts.{verdict-good}
 
 -- the verdict on the mesh of a list of objects
 abbrev pub VerdictHolds : Float → List Object → Type 0

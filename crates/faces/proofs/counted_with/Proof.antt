@@ -1,9 +1,9 @@
--- `face::counted_with` meets its contract. Assumes nothing.
+-- `faces::counted_with` meets its contract. Assumes nothing.
 use borrow.Author.Tests.{eq-eqb, ne-eqb}
 use native.Mathlib.Omega.{arith}
-use Rattle.face.specs.Drawing.{countedWith}
-use Rattle.face.proofs.counted_with.Statement.{statement}
-use Rattle.face.proofs.counted_with.Tie as tie
+use Rattle.faces.specs.Sums.{countedWith}
+use Rattle.faces.proofs.counted_with.Statement.{statement}
+use Rattle.faces.proofs.counted_with.Tie as tie
 
 returns : tie.Need-returns
 unfolding countedWith

@@ -1,8 +1,8 @@
--- `face::store_points` meets its contract. Assumes nothing.
+-- `faces::store_points` meets its contract. Assumes nothing.
 use borrow.Author.Tests.{eq-eqb, ne-eqb}
-use Rattle.face.specs.Drawing.{verticesWith, normalsWith}
-use Rattle.face.proofs.store_points.Statement.{statement}
-use Rattle.face.proofs.store_points.Tie as tie
+use Rattle.faces.specs.Sums.{verticesWith, normalsWith}
+use Rattle.faces.proofs.store_points.Statement.{statement}
+use Rattle.faces.proofs.store_points.Tie as tie
 
 returns : tie.Need-returns
 unfolding verticesWith normalsWith

@@ -11,12 +11,12 @@ use Rattle.lists.specs.Loops.{first}
 use Rattle.float.specs.Number.{minArea}
 use Rattle.coords.specs.declared.Point.{Point}
 use Rattle.coords.specs.Buffers.{verticesIn}
-unfoldable pub use Rattle.faults.specs.Faults.{degenerate}
-pub use Rattle.faults.specs.Faults.{notFinite}
+unfoldable pub use Rattle.validation.specs.Faults.{degenerate}
+pub use Rattle.validation.specs.Faults.{notFinite}
 use Rattle.validation.specs.declared.Validation.{Validation}
 use Rattle.validation.specs.declared.Validation.the-variants.{Judged, PartialVertex}
 use Rattle.validation.specs.declared.Verdict.{Verdict}
 use Rattle.validation.specs.declared.Verdict.the-variants.{Ok, Empty, NonFiniteVertex, IndexOutOfRange, DegenerateTriangle}
 
 -- the triangles from number t on
 unfoldable pub trianglesFrom : Float → List Point → ℕ → List ℕ → Verdict

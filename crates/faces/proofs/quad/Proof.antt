@@ -1,4 +1,4 @@
--- `face::quad` meets its contract. Assumes nothing.
+-- `faces::quad` meets its contract. Assumes nothing.
 use mathlib.Core.Path.{_≡_, refl, sym, subst}
 use mathlib.Core.Bool.{_&&_, true}
 use mathlib.Core.List.{[], _∷_}
@@ -9,12 +9,12 @@ use lib.Dec.{T, eqb, eqb→eq}
 use lib.Ieee.Fits.{and-l, and-r}
 use Rattle.coords.specs.Buffers.{verticesIn}
 use Rattle.vectors.specs.Vectors.{zeroV}
 use Rattle.face.specs.Faces.{triangle, fan, quad}
-use Rattle.face.proofs.OneFace.{all-counted, face-drawn, face-counted}
+use Rattle.faces.proofs.OneFace.{all-counted, face-drawn, face-counted}
 use Rattle.lists.specs.Loops.{list}
 use Rattle.offering.specs.Offered.{offered, offerAll}
-use Rattle.face.proofs.quad.Statement.{statement}
-use Rattle.face.proofs.quad.Tie as tie
+use Rattle.faces.proofs.quad.Statement.{statement}
+use Rattle.faces.proofs.quad.Tie as tie
 
 -- no buffer has a place
 none : (v n i : ℕ) → (eqb v 0 && eqb n 0) && eqb i 0 ≡ true → (v ≡ 0) × (n ≡ 0) × (i ≡ 0)

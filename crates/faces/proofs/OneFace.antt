@@ -18,15 +18,16 @@ use Rattle.vectors.specs.declared.Vector.{Vector}
 use Rattle.vectors.specs.Vectors.{unitZ, normalizeOr}
 use Rattle.coords.specs.declared.Point.{Point}
 use Rattle.coords.specs.Buffers.{vertexNumbers, normalNumbers}
 use Rattle.face.specs.declared.Tally.{Tally}
 use Rattle.face.specs.Faces.{Triangle, triangle, Face, thinIn, keptOf, faceNormal, nothing, behind, numbered, writeKept, writeFace, writeFaces}
 use Rattle.offering.specs.declared.Sum.{Sum}
 use Rattle.triangles.specs.Triangles.{triangleRecord, triangleAt, trianglesIn}
 use Rattle.offering.specs.Offered.{Offered, offered, noSum, offerAll}
-use Rattle.face.specs.Drawing.{tally, Drawing, drawing, counted, drawn, countedWith, verticesWith, normalsWith, Drew}
+use Rattle.face.specs.Drawing.{tally, Drawing, drawing, counted, drawn, Drew}
+use Rattle.faces.specs.Sums.{countedWith, verticesWith, normalsWith}
 use Rattle.face.proofs.Counts.{face-account}
-use Rattle.face.proofs.Offers.{added, offered-all}
+use Rattle.faces.proofs.Offers.{added, offered-all}
 use Rattle.face.proofs.Draws.{same-drawing, same-tally, put}
 
 pub length-triangles : (xs : List ℕ) → length (trianglesIn xs) ≡ length xs / 3
 unfolding trianglesIn

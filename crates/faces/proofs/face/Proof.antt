@@ -1,13 +1,13 @@
--- `face::face` meets its contract. Assumes nothing.
+-- `faces::face` meets its contract. Assumes nothing.
 use Prim.Native.Nat.{_+_}
 use native.Mathlib.Omega.{arith}
 use Rattle.buffers.proofs.Vertices.{length-vertices}
 use Rattle.coords.specs.Buffers.{verticesIn}
-use Rattle.face.proofs.OneFace.{length-triangles, all-counted, face-drawn}
+use Rattle.faces.proofs.OneFace.{length-triangles, all-counted, face-drawn}
 use Rattle.offering.specs.Offered.{offered}
 use Rattle.triangles.specs.Triangles.{trianglesIn}
-use Rattle.face.proofs.face.Statement.{statement}
-use Rattle.face.proofs.face.Tie as tie
+use Rattle.faces.proofs.face.Statement.{statement}
+use Rattle.faces.proofs.face.Tie as tie
 
 counted-with-requires : tie.Need-counted-with-requires
 counted-with-requires c κs =

@@ -1,0 +1,23 @@
+-- A face whose triangles came to a sum: its points are stored and counted unless none was kept. Definitions only.
+use Prim.Native.Nat.{ℕ, _+_, _*_}
+use mathlib.Core.Bool.{Bool, cond}
+use mathlib.Core.List.{List}
+use lib.ListN.{length, replicate}
+use lib.Seq.{sets}
+use lib.Ieee.{Float}
+use Rattle.vectors.specs.declared.Vector.{Vector}
+use Rattle.vectors.specs.Vectors.{unitZ, normalizeOr}
+use Rattle.coords.specs.declared.Point.{Point}
+use Rattle.coords.specs.Buffers.{vertexNumbers, normalNumbers}
+use Rattle.offering.specs.declared.Sum.{Sum}
+use Rattle.face.specs.declared.Tally.{Tally}
+use Rattle.face.specs.Drawing.{tally}
+
+unfoldable pub countedWith : Bool → ℕ → Sum → Tally → Tally
+countedWith none n s t = cond none (tally (t .vertices) (t .kept) (t .thin + s .thin)) (tally (t .vertices + n) (t .kept + s .kept) (t .thin + s .thin))
+
+unfoldable pub verticesWith : Bool → List Point → ℕ → List Float → List Float
+verticesWith none ps at vs = cond none vs (sets vs (3 * at) (vertexNumbers ps))
+
+unfoldable pub normalsWith : Bool → List Point → Vector → ℕ → List Float → List Float
+normalsWith none ps sum at ns = cond none ns (sets ns (3 * at) (normalNumbers (replicate (length ps) (normalizeOr sum unitZ))))

@@ -1,0 +1,107 @@
+// One flat face, `face` of object_mesh.rs, drawn into lent buffers behind what stands there.
+ghost use mathlib.Core.Path.{_≡_};
+ghost use mathlib.Core.List.{[], _∷_};
+ghost use Prim.Native.Nat.{ℕ, _+_, _<_, _/_, _^_};
+ghost use lib.Dec.{eqb};
+ghost use lib.ListN.{length};
+ghost use Rattle.lists.specs.Each.{Each};
+ghost use Rattle.coords.specs.Buffers.{verticesIn};
+ghost use Rattle.triangles.specs.Triangles.{TriangleLow, trianglesIn};
+ghost use Rattle.face.specs.Faces.{quad};
+ghost use Rattle.face.specs.Drawing.{drawing, faceIn, Drew, Room};
+ghost use Rattle.faces.specs.Sums.{countedWith, verticesWith, normalsWith};
+use coords::Point;
+use face::Tally;
+use offering::Sum;
+use offering::offer_all;
+use offering::offer_quad;
+use thin_quads::thin_in_quad;
+use vectors::Vector;
+use vertices::put_points;
+
+// What was counted, with a face of n points whose triangles came to the sum.
+fn counted_with(t: Tally, s: Sum, n: u32) -> Tally
+    requires { ⌜ (t .vertices + n < 2 ^ 32) × (t .kept + s .kept < 2 ^ 32) × (t .thin + s .thin < 2 ^ 32) ⌝ }
+    ensures { λ r. ⌜ r ≡ countedWith (eqb (s .kept) 0) n s t ⌝ }
+{
+    if s.kept == 0 {
+        return Tally {
+            vertices: t.vertices,
+            kept: t.kept,
+            thin: t.thin + s.thin,
+        };
+    }
+    Tally {
+        vertices: t.vertices + n,
+        kept: t.kept + s.kept,
+        thin: t.thin + s.thin,
+    }
+}
+
+// The points of a face whose triangles came to the sum, stored from place at on if one was kept.
+fn store_points(points: &[f32], s: Sum, at: u32, vs: &mut [f32], ns: &mut [f32])
+    requires { ⌜ at + length (now points) / 3 < 2 ^ 32 ⌝ }
+    ensures { λ _. ⌜ (now (vs .exit) ≡ verticesWith (eqb (s .kept) 0) (verticesIn (now (points .entry))) at (now (vs .entry))) × (now (ns .exit) ≡ normalsWith (eqb (s .kept) 0) (verticesIn (now (points .entry))) (s .normal) at (now (ns .entry))) ⌝ }
+{
+    if s.kept == 0 {
+        return;
+    }
+    put_points(points, s.normal, at, vs, ns);
+}
+
+// A face of points and triangles lent as numbers, three to one, drawn where the tally says: its kept
+// triangles with all its points, or nothing. `before` is the number of vertices that lie before the
+// buffers.
+pub fn face(
+    points: &[f32],
+    triangles: &[u32],
+    out: Vector,
+    limit: f32,
+    before: u32,
+    t: Tally,
+    vs: &mut [f32],
+    ns: &mut [f32],
+    is: &mut [u32],
+) -> Tally
+    requires { ⌜ Room before t (length (now points) / 3) (length (now triangles) / 3) × Each (TriangleLow (length (verticesIn (now points)))) (trianglesIn (now triangles)) ⌝ }
+    ensures { λ r. ⌜ ((part : ℕ) → Drew limit (faceIn part (now (points .entry)) (now (triangles .entry)) out ∷ []) before (drawing t (now (vs .entry)) (now (ns .entry)) (now (is .entry))) (drawing r (now (vs .exit)) (now (ns .exit)) (now (is .exit)))) ⌝ }
+{
+    let base = before + t.vertices;
+    let s = offer_all(points, triangles, out, limit, base, t.kept, is);
+    store_points(points, s, t.vertices, vs, ns);
+    counted_with(t, s, (points.len() / 3) as u32)
+}
+
+// A face of four points, as two triangles from the first, which are judged before the points are lent.
+// Without any room, as where a scene is measured, they are only counted.
+pub fn quad(
+    a: Point,
+    b: Point,
+    c: Point,
+    d: Point,
+    out: Vector,
+    limit: f32,
+    before: u32,
+    t: Tally,
+    vs: &mut [f32],
+    ns: &mut [f32],
+    is: &mut [u32],
+) -> Tally
+    requires { ⌜ Room before t 4 2 ⌝ }
+    ensures { λ r. ⌜ ((part : ℕ) → Drew limit (quad part a b c d out ∷ []) before (drawing t (now (vs .entry)) (now (ns .entry)) (now (is .entry))) (drawing r (now (vs .exit)) (now (ns .exit)) (now (is .exit)))) ⌝ }
+{
+    if (vs.len() == 0) & (ns.len() == 0) & (is.len() == 0) {
+        let thin = thin_in_quad(a, b, c, d, limit);
+        let s = Sum {
+            normal: Vector::ZERO,
+            kept: 2 - thin,
+            thin,
+        };
+        return counted_with(t, s, 4);
+    }
+    let base = before + t.vertices;
+    let s = offer_quad(a, b, c, d, out, limit, base, t.kept, is);
+    let points = [a.x, a.y, a.z, b.x, b.y, b.z, c.x, c.y, c.z, d.x, d.y, d.z];
+    store_points(&points, s, t.vertices, vs, ns);
+    counted_with(t, s, 4)
+}
