@@ -49,7 +49,12 @@ fn box_point(b: Placed, x: f32, y: f32, z: f32) -> Point
 {
     let origin = b.origin;
     let turn = b.turn;
-    origin.add(turn.frame((x - 0.5) * b.length, (y - 0.5) * b.width, z * b.height))
+    origin.add(frames::frame(
+        turn,
+        (x - 0.5) * b.length,
+        (y - 0.5) * b.width,
+        z * b.height,
+    ))
 }
 
 // The corner at side along the axis, and at p and q along the two axes after it, going round.
@@ -68,9 +73,9 @@ fn direction(turn: Orientation, axis: Axis) -> Vector
     ensures { λ r. ⌜ r ≡ onAxis (axisOf axis) onef zerof zerof (frame turn) ⌝ }
 {
     match axis {
-        Axis::X => turn.frame(1.0, 0.0, 0.0),
-        Axis::Y => turn.frame(0.0, 1.0, 0.0),
-        Axis::Z => turn.frame(0.0, 0.0, 1.0),
+        Axis::X => frames::frame(turn, 1.0, 0.0, 0.0),
+        Axis::Y => frames::frame(turn, 0.0, 1.0, 0.0),
+        Axis::Z => frames::frame(turn, 0.0, 0.0, 1.0),
     }
 }
 

@@ -1,2 +1,2 @@
-// Stored outlines and lists of objects that are built, and the most as exact, computed on the
-// definitions: see specs/ and proofs/.
+// Stored outlines and lists of objects that are built, computed on the definitions: see specs/ and
+// proofs/.

@@ -21,7 +21,7 @@ fn ring_point(origin: Point, turn: Orientation, radius: f32, z: f32, k: usize) -
     ensures { λ r. ⌜ r ≡ ringPoint origin turn radius z k ⌝ }
 {
     let angle = circle::ring_sin_cos(k);
-    origin.add(turn.frame(radius * angle.cos, radius * angle.sin, z))
+    origin.add(frames::frame(turn, radius * angle.cos, radius * angle.sin, z))
 }
 
 // The ring points of both ends, the bottom's and the top's.
@@ -45,7 +45,7 @@ fn side_direction(turn: Orientation, k: usize) -> Vector
     ensures { λ r. ⌜ r ≡ frame turn (cosine (sideAngle k)) (sine (sideAngle k)) zerof ⌝ }
 {
     let angle = circle::side_sin_cos(k);
-    turn.frame(angle.cos, angle.sin, 0.0)
+    frames::frame(turn, angle.cos, angle.sin, 0.0)
 }
 
 // The sides, each from a ring point to the next.
@@ -102,7 +102,7 @@ pub fn cylinder(
     ensures { λ r. ⌜ Drew limit (cylinder origin turn radius height) before (drawing t (now (vs .entry)) (now (ns .entry)) (now (is .entry))) (drawing r (now (vs .exit)) (now (ns .exit)) (now (is .exit))) ⌝ }
 {
     let rings = rings_of(origin, turn, radius, height);
-    let up = turn.frame(0.0, 0.0, 1.0);
+    let up = frames::frame(turn, 0.0, 0.0, 1.0);
     let u = cylinder_sides(rings, turn, limit, before, t, vs, ns, is);
     let w = end(rings[1], up, limit, before, u, vs, ns, is);
     if height > 0.0 {

@@ -1,8 +1,8 @@
--- `Orientation::frame` meets its contract: widening changes no value. Assumes nothing.
+-- `frames::frame` meets its contract: widening changes no value. Assumes nothing.
 use borrow.Author.Needs.{needs}
 use Rattle.object.specs.Object.{frame}
-use Rattle.object.proofs.Orientation.frame.Statement.{statement}
-use Rattle.object.proofs.Orientation.frame.Tie as tie
+use Rattle.frames.proofs.frame.Statement.{statement}
+use Rattle.frames.proofs.frame.Tie as tie
 
 f32-to-f64-with-nan-requires : tie.Need-f32-to-f64-with-nan-requires
 f32-to-f64-with-nan-requires c κs = search needs

@@ -1,0 +1,1 @@
+// The most as exact, computed on the definitions for one object of each kind: see proofs/.
