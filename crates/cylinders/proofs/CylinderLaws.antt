@@ -1,29 +1,33 @@
--- The parts of a cylinder: their points and triangles, and a side's points read from its rings. Assumes nothing.
+-- The parts of a cylinder: their points and triangles, the room that they leave, a side's points read from its rings, and the whole drawn part by part. Assumes nothing.
 use mathlib.Core.Path.{_≡_, refl}
+use mathlib.Core.Bool.{true, false}
 use mathlib.Core.List.{List, [], _∷_}
 use Prim.Native.Nat.{ℕ, _*_, _<_}
 use native.Mathlib.Omega.{arith}
 use lib.ListN.{length, getD}
-use lib.Ieee.{Float}
+use lib.Dec.{lit≤}
+use lib.Ieee.{Float, lt}
 use Rattle.lists.specs.Loops.{list, sumOf, next}
 use Rattle.lists.proofs.Lists.{getD-any}
-use Rattle.float.specs.Number.{zerof}
+use Rattle.float.specs.Number.{zerof, onef}
 use Rattle.coords.specs.declared.Point.{Point}
 use Rattle.vectors.specs.declared.Vector.{Vector}
+use Rattle.vectors.specs.Vectors.{negate}
 use Rattle.coords.specs.Coords.{origin}
 use Rattle.circle.specs.Circle.{sideAngle, sine, cosine}
 use Rattle.object.specs.declared.Orientation.{Orientation}
 use Rattle.object.specs.Object.{frame}
 use Rattle.face.specs.Faces.{fan, quad}
-use Rattle.face.specs.Drawing.{Drawing, Drew}
-use Rattle.shapes.specs.Shapes.{cylinderSide, endFace}
-use Rattle.shapes.proofs.Rooms.{Sized, sized-list}
+use Rattle.face.specs.Drawing.{Drawing, Drew, Room}
+use Rattle.face.proofs.Draws.{then}
+use Rattle.shapes.specs.Shapes.{ringAt, cylinderSide, endFace, cylinderFaces, cylinder}
+use Rattle.shapes.proofs.Rooms.{Sized, sized-list, room-left}
 
 pub sides-sized : (t : Orientation) (bottom top : List Point) (n : ℕ) → Sized (list (cylinderSide t bottom top) n 0) (4 * n) (2 * n)
 unfolding cylinderSide quad fan list
 sides-sized t bottom top n = sized-list (cylinderSide t bottom top) 4 2 (λ i. refl) (λ i. refl) n
 
-pub end-sized : (ring : List Point) (out : Vector) (part : ℕ) → length ring ≡ 16 → Sized (endFace ring out part ∷ []) 16 14
+end-sized : (ring : List Point) (out : Vector) (part : ℕ) → length ring ≡ 16 → Sized (endFace ring out part ∷ []) 16 14
 unfolding endFace fan list sumOf
 end-sized ring out part h = record { points = omega arith; triangles = omega arith }
 
@@ -35,3 +39,25 @@ pub side-drew : (limit : Float) (t : Orientation) (bottom top : List Point) (k :
 unfolding cylinderSide
 side-drew limit t bottom top k p out h b a e q =
     rw (← getD-any bottom k p origin (omega arith), ← getD-any bottom (next 16 k) p origin (omega arith), ← getD-any top (next 16 k) p origin (omega arith), ← getD-any top k p origin (omega arith), ← e) q
+
+-- the room that the sides leave, and then the top
+module _ (limit : Float) (t : Orientation) (bottom top : List Point) {before : ℕ} {d d₁ : Drawing} (room : Room before (d .tally) 96 60)
+    (sides : Drew limit (list (cylinderSide t bottom top) 16 0) before d d₁) where
+  pub top-room : Room before (d₁ .tally) 32 28
+  top-room = room-left limit room sides (sides-sized t bottom top 16) (lit≤ tt) (lit≤ tt)
+
+  pub floor-room : (ring : List Point) (out : Vector) (part : ℕ) {d₂ : Drawing} → length ring ≡ 16 → Drew limit (endFace ring out part ∷ []) before d₁ d₂ → Room before (d₂ .tally) 16 14
+  floor-room ring out part h q = room-left limit top-room q (end-sized ring out part h) (lit≤ tt) (lit≤ tt)
+
+-- a cylinder drawn part by part: the sides, the top, and the floor of one that has a height
+module _ (o : Point) (t : Orientation) (r h : Float) {limit : Float} {before : ℕ} {rings : List (List Point)} {up : Vector} {d d₁ d₂ : Drawing}
+    (both : rings ≡ ringAt o t r zerof ∷ ringAt o t r h ∷ []) (upward : up ≡ frame t zerof zerof onef)
+    (sides : Drew limit (list (cylinderSide t (getD rings 0 []) (getD rings 1 [])) 16 0) before d d₁) (top : Drew limit (endFace (getD rings 1 []) up 2 ∷ []) before d₁ d₂) where
+  pub flat-cylinder : lt zerof h ≡ false → Drew limit (cylinder o t r h) before d d₂
+  unfolding cylinder cylinderFaces
+  flat-cylinder e = rw e (then limit (rw both at sides) (rw (both, upward) at top))
+
+  pub whole-cylinder : {down : Vector} {d₃ : Drawing} → lt zerof h ≡ true → down ≡ negate up → Drew limit (endFace (getD rings 0 []) down 3 ∷ []) before d₂ d₃
+      → Drew limit (cylinder o t r h) before d d₃
+  unfolding cylinder cylinderFaces
+  whole-cylinder e turned floor = rw e (then limit (rw both at sides) (then limit (rw (both, upward) at top) (rw (both, turned, upward) at floor)))

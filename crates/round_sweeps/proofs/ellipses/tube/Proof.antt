@@ -3,10 +3,9 @@ use mathlib.Core.Path.{_≡_}
 use Prim.Native.Nat.{_-_, _*_, _≤_}
 use native.Mathlib.Omega.{arith}
 use lib.ListN.{length}
-use Rattle.lists.specs.Loops.{list, sumOf}
+use Rattle.lists.specs.Loops.{list}
 use Rattle.face.specs.Drawing.{drawing, Drew, Room}
-use Rattle.face.specs.Faces.{fan, quad}
-use Rattle.face.proofs.Draws.{drew-room, drew-none, drew-vertices, drew-normals, drew-indices, room-less}
+use Rattle.face.proofs.Draws.{drew-none, drew-vertices, drew-normals, drew-indices, room-less}
 use Rattle.shapes.specs.Shapes.{tubeSide, tubeFaces}
 use Rattle.round_sweeps.specs.Rings.{ringAbout}
 use Rattle.round_sweeps.proofs.RingFaces.{side-drawn}
@@ -27,9 +26,15 @@ loop-holds c = (omega arith, drew-none (c .before .before .before .args .limit) 
 quad-requires : tie.Need-quad-requires Inv-loop μ-loop
 quad-requires c κs = room-less (c .before .before .before .before .before .before .before .before .before .loop .inv .2) (omega arith) (omega arith)
 
+-- a ring has sixteen points
+rings-sized : (s : tie.Start Inv-loop μ-loop) → (length (s .args .t2) ≡ 16) × (length (s .args .t4) ≡ 16)
+rings-sized s = (omega (arith, s .good .1 .0), omega (arith, s .good .1 .1 .1 .0))
+
 loop-again : tie.Need-loop-again Inv-loop μ-loop
-unfolding quad fan list sumOf
-loop-again c = let a = c .before .before .before .before .before .before .before .before .before .before .before .before .before .before .before .before .before .before .before .before .args in let l = c .before .before .before .before .before .before .before .before .before .before .before .before .before .before .before .before .loop in let x : length (a .t2) ≡ 16 = omega (arith, c .before .before .before .before .before .before .before .before .before .before .before .before .before .before .before .before .before .before .before .before .good .1 .0) in let y : length (a .t4) ≡ 16 = omega (arith, c .before .before .before .before .before .before .before .before .before .before .before .before .before .before .before .before .before .before .before .before .good .1 .1 .1 .0) in (omega arith, side-drawn (a .ca) (a .t2) (a .cb) (a .t4) (l .k) _ _ _ _ x y (c .before .before .before .before .before .before .before .before .before .before .before .before .before .before .before .loop-test .taken) (l .inv .1) (rw (c .before .before .before .before .before .before .before .before .before .before .side-direction .ensures) at (c .before .before .before .before .before .before .quad .ensures 1)), drew-room (a .limit) (l .inv .2) (c .before .before .before .before .before .before .quad .ensures 1) (omega arith) (omega arith))
+loop-again c =
+    let s = c .before .before .before .before .before .before .before .before .before .before .before .before .before .before .before .before .before .before .before .before in
+    let l = c .before .before .before .before .before .before .before .before .before .before .before .before .before .before .before .before .loop in
+    side-drawn (s .args .ca) (s .args .t2) (s .args .cb) (s .args .t4) (l .k) _ _ _ _ (rings-sized s .0) (rings-sized s .1) (c .before .before .before .before .before .before .before .before .before .before .before .before .before .before .before .loop-test .taken) (l .inv .1) (l .inv .2) (c .before .before .before .before .before .before .before .before .before .before .side-direction .ensures) (c .before .before .before .before .before .before .quad .ensures 1)
 
 same-length : tie.Need-same-length Inv-loop μ-loop
 same-length c = drew-vertices (c .before .before .before .before .before .args .limit) (c .before .loop .inv .1)
