@@ -35,7 +35,9 @@ exact-for nearer bytes = let os = objectsIn (scene (sceneBytes (bytes ∷ []))) 
 
 pub exact-tests : List Bool
 exact-tests =
-    exact-for false (solidBytes 0 [])
+    not (exact-for false twice)
+    ∷ exact-for true twice
+    ∷ exact-for false (solidBytes 0 [])
     ∷ exact-for false (solidBytes 1 (pos 4 ∷ pos 2 ∷ pos 1 ∷ []))
     ∷ exact-for false (solidBytes 2 (pos 1 ∷ pos 2 ∷ []))
     ∷ exact-for false (outlineBytes 3 (square 0 9) [])
@@ -43,8 +45,6 @@ exact-tests =
     ∷ exact-for false (outlineBytes 4 [] [])
     ∷ exact-for false (swept 5)
     ∷ exact-for false (swept 6)
-    ∷ not (exact-for false twice)
-    ∷ exact-for true twice
     ∷ []
 
 pub exact : every (λ b. b) exact-tests ≡ true
