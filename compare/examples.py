@@ -39,7 +39,7 @@ def example(scene):
         return f'refusedAs {given} {answer[1]} {answer[2]}'
     return f'builtAs {given} {VERDICTS[answer[-1]]} ' + ' '.join(words(scene[b]) for b in BUFFERS)
 
-# the scenes by the first letter of their names: each list is computed by itself
+# the scenes by the first letter of their names
 LISTS = {'lists': 'a', 'outlines': 'bcdefl', 'solids': 'ghi', 'sweeps': 'jk', 'refusals': 'm'}
 
 found = scenes(sys.argv[1])

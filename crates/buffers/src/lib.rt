@@ -21,7 +21,7 @@ pub fn vertex_at(vertices: &[f32], k: usize) -> Point
     }
 }
 
-pub fn put_float(s: &mut [f32], at: usize, x: f32)
+fn put_float(s: &mut [f32], at: usize, x: f32)
     ensures { λ _. ⌜ now (s .exit) ≡ set (now (s .entry)) at x ⌝ }
 {
     if at < s.len() {

@@ -1,15 +1,11 @@
 -- The stored scenes that are built give the answers of the Rust: computed on the definitions. Assumes nothing.
 use mathlib.Core.Path.{_≡_, refl}
-use mathlib.Core.Bool.{true}
+use mathlib.Core.Bool.{true, _&&_}
 use Rattle.lists.specs.Loops.{every}
 use Rattle.examples.specs.Examples.{agrees}
 use Rattle.examples.proofs.Examples.{compared}
 use Rattle.computed_solids.specs.Stored.{solids, sweeps}
 
-pub solids-agree : every agrees solids ≡ true
-unfolding compared solids
-solids-agree = refl
-
-pub sweeps-agree : every agrees sweeps ≡ true
-unfolding compared sweeps
-sweeps-agree = refl
+pub stored-agree : (every agrees solids && every agrees sweeps) ≡ true
+unfolding compared solids sweeps
+stored-agree = refl

@@ -41,7 +41,7 @@ impl Point {
     pub fn is_finite(self) -> bool
         ensures { λ r. ⌜ r ≡ finitePoint self ⌝ }
     {
-        signs::is_finite(self.x) & signs::is_finite(self.y) & signs::is_finite(self.z)
+        finite::is_finite(self.x) & finite::is_finite(self.y) & finite::is_finite(self.z)
     }
 
     // Equal by value: -0.0 equals +0.0.

@@ -66,7 +66,7 @@ fn triangles(limit: f32, vertices: &[f32], indices: &[u32]) -> Verdict
 }
 
 // At a limit below which a triangle is thin.
-pub fn validate_at(limit: f32, vertices: &[f32], indices: &[u32]) -> Validation
+fn validate_at(limit: f32, vertices: &[f32], indices: &[u32]) -> Validation
     ensures { λ r. ⌜ r ≡ validateAt limit (now (vertices .entry)) (now (indices .entry)) ⌝ }
 {
     if vertices.len() % 3 != 0 {

@@ -1,7 +1,6 @@
 // Signs, the larger of two numbers and their order, for every value.
 ghost use mathlib.Core.Path.{_≡_};
 ghost use Rattle.float.specs.Signs.{magnitude, signum, larger, totalLess};
-ghost use Rattle.float.specs.Number.{isFinite};
 
 // x without its sign.
 pub fn abs(x: f32) -> f32
@@ -61,11 +60,4 @@ pub fn total_less(x: f32, y: f32) -> bool
         return f32::to_bits(y) < 0x8000_0000;
     }
     false
-}
-
-// Neither a NaN nor an infinity.
-pub fn is_finite(x: f32) -> bool
-    ensures { λ r. ⌜ r ≡ isFinite x ⌝ }
-{
-    (-1.0 / 0.0 < x) & (x < 1.0 / 0.0)
 }

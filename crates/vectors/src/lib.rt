@@ -89,7 +89,7 @@ impl Vector {
         ensures { λ r. ⌜ r ≡ normalizeOr self fallback ⌝ }
     {
         let len = roots::sqrt(self.dot(self));
-        if signs::is_finite(len) & (0.0 < len) {
+        if finite::is_finite(len) & (0.0 < len) {
             self.scale(1.0 / len)
         } else {
             fallback
