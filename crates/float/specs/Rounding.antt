@@ -17,10 +17,10 @@ unfolding rootStep
 rootIn zero n = 0
 rootIn (suc d) n = rootStep n (rootIn d (n / 4))
 
--- the largest number whose square is at most n
+-- the largest number whose square is at most n, which is below 4 ^ (size n / 2 + 1)
 unfoldable pub root : ℕ → ℕ
 unfolding rootIn size
-root n = rootIn (size n) n
+root n = rootIn (suc (size n / 2)) n
 
 -- ---- rounding
 
