@@ -1,4 +1,4 @@
-// Whether a number is finite.
+// Apart from `signs`: vectors and points need this alone of it.
 ghost use mathlib.Core.Path.{_≡_};
 ghost use Rattle.float.specs.Number.{isFinite};
 

@@ -17,7 +17,7 @@ unfolding rootStep
 rootIn zero n = 0
 rootIn (suc d) n = rootStep n (rootIn d (n / 4))
 
--- the largest number whose square is at most n, which is below 4 ^ (size n / 2 + 1)
+-- the largest number whose square is at most n. As n has `size n` binary digits, it is below 4 ^ (size n / 2 + 1).
 unfoldable pub root : ℕ → ℕ
 unfolding rootIn size
 root n = rootIn (suc (size n / 2)) n
