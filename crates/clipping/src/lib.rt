@@ -1,13 +1,14 @@
 // Ear clipping of one ring, as the loop of `triangulate`.
 ghost use mathlib.Core.Path.{_≡_};
 ghost use Prim.Native.Nat.{_+_, _-_, _<_, _≤_, _^_};
-ghost use lib.ListN.{length};
+ghost use lib.ListN.{length, take};
 ghost use Rattle.lists.specs.Loops.{first};
 ghost use Rattle.lid.specs.Rings.{flats, turn};
 ghost use Rattle.lid.specs.Clipping.{isStraight, clipStep, clip};
 ghost use Rattle.lid.specs.Steps.{Cuts, Clips};
 ghost use Rattle.ears.specs.Ears.{Known};
-ghost use Rattle.notes.specs.Notes.{Forgot};
+ghost use Rattle.notes.specs.Notes.{without};
+ghost use Rattle.clipping.specs.StepNotes.{stepNotes};
 use ears::find_ear;
 use entries::put_entry;
 use entries::put_triangle;
@@ -54,7 +55,8 @@ fn clip_step(us: &[f32], vs: &[f32], ring: &[u32], why: &mut [u32]) -> Step
     requires { ⌜ length (now why) ≡ length (now ring) ⌝ }
     requires { ⌜ Known (flats (now us) (now vs)) (now ring) (now why) ⌝ }
     ensures { λ r. ⌜ r ≡ clipStep (flats (now (us .entry)) (now (vs .entry))) (now (ring .entry)) ⌝ }
-    ensures { λ r. ⌜ Known (flats (now (us .entry)) (now (vs .entry))) (now (ring .entry)) (now (why .exit)) ⌝ }
+    ensures { λ _. ⌜ Known (flats (now (us .entry)) (now (vs .entry))) (now (ring .entry)) (now (why .exit)) ⌝ }
+    ensures { λ _. ⌜ now (why .exit) ≡ stepNotes (flats (now (us .entry)) (now (vs .entry))) (now (ring .entry)) (now (why .entry)) ⌝ }
 {
     if ring.len() <= 3 {
         return Step::Stop;
@@ -68,7 +70,7 @@ fn clip_step(us: &[f32], vs: &[f32], ring: &[u32], why: &mut [u32]) -> Step
     }
 }
 
-// Cuts off the corner at a place: the notes that it changes are forgotten, its entry goes to the log, an ear's triangle to the triangles, and
+// Cuts off the corner at a place: the notes are moved or start anew, its entry goes to the log, an ear's triangle to the triangles, and
 // the corner out of the ring. The result is how many triangles there then are.
 fn cut(
     ring: &mut [u32],
@@ -84,9 +86,9 @@ fn cut(
     requires { ⌜ length (now why) ≡ length (now ring) ⌝ }
     requires { ⌜ count + 1 < 2 ^ 32 ⌝ }
     ensures { λ r. ⌜ Cuts mark (now (ring .entry)) (at .0) (now (ring .exit)) (now (log .entry)) (now (log .exit)) n (now (triangles .entry)) (now (triangles .exit)) count r ⌝ }
-    ensures { λ _. ⌜ Forgot (now (ring .entry)) (at .0) (now (why .entry)) (now (why .exit)) ⌝ }
+    ensures { λ _. ⌜ take (length (now (why .entry)) - 1) (now (why .exit)) ≡ without (at .0) (now (why .entry)) ⌝ }
 {
-    forget(ring, why, at);
+    forget(why, at);
     let t = corners_at(ring, at);
     put_entry(log, n, mark, t.a.0, t.b.0, t.c.0);
     remove(ring, at);

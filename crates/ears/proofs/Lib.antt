@@ -1,2 +1,3 @@
-pub mod ClipLaws
+pub mod FirstLaws
+pub mod TestLaws
 pub mod EarLaws

@@ -1,12 +1,12 @@
-// The search for an ear. What is found of a place that is none is noted, so that it is not tested again before something changes for it.
+// The search for an ear. How far a place's tests have come is noted, so that they go on from there, and a place that failed one is passed over.
 ghost use mathlib.Core.Path.{_≡_};
-ghost use Prim.Native.Nat.{_<_};
+ghost use Prim.Native.Nat.{_-_, _<_, _≤_};
 ghost use lib.ListN.{length};
 ghost use Rattle.lists.specs.Loops.{first};
-ghost use Rattle.lid.specs.Rings.{flats, turn};
+ghost use Rattle.lid.specs.Rings.{flats, corner, turn};
 ghost use Rattle.lid.specs.Clipping.{isEar};
 ghost use Rattle.lid.specs.Steps.{clearBy};
-ghost use Rattle.ears.specs.Ears.{Known, Blocked, Tells};
+ghost use Rattle.ears.specs.Ears.{Known, blocks, behind, told, tested, searched};
 use flats::flat_at;
 use flats::turn;
 use lid::CornerNumber;
@@ -15,11 +15,9 @@ use lid::Flat;
 use lid::RingPlace;
 use lid::Tested;
 use lists::Found;
-use notes::UNKNOWN;
+use notes::UNTURNED;
+use notes::failed;
 use ring_corners::corners_at;
-
-// The note of a place whose turn is not above 0; any other but UNKNOWN is the number of a corner in the way.
-const UNTURNED: u32 = 0xFFFF_FFFE;
 
 // Whether corner p, at q, does not stand in the way of the ear t, at a, b, c.
 fn clear(t: Corners, a: Flat, b: Flat, c: Flat, p: CornerNumber, q: Flat) -> bool
@@ -33,14 +31,46 @@ fn clear(t: Corners, a: Flat, b: Flat, c: Flat, p: CornerNumber, q: Flat) -> boo
         | (turn(c, a, q) < 0.0)
 }
 
-// The first place whose corner stands in the way.
-fn find_block(us: &[f32], vs: &[f32], ring: &[u32], t: Corners, a: Flat, b: Flat, c: Flat) -> Found
-    ensures { λ r. ⌜ Blocked (flats (now (us .entry)) (now (vs .entry))) t a b c (now (ring .entry)) r ⌝ }
+// A number of corners of which both slices have the coordinates.
+fn common(us: &[f32], vs: &[f32]) -> usize
+    ensures { λ r. ⌜ (r ≤ length (now (us .entry))) × (r ≤ length (now (vs .entry))) ⌝ }
 {
-    let mut k = 0;
+    if us.len() < vs.len() {
+        return us.len();
+    }
+    vs.len()
+}
+
+// `flat_at` by one test, for the corners below such a number.
+fn flat_in(us: &[f32], vs: &[f32], both: usize, c: CornerNumber) -> Flat
+    requires { ⌜ (both ≤ length (now us)) × (both ≤ length (now vs)) ⌝ }
+    ensures { λ r. ⌜ r ≡ corner (flats (now (us .entry)) (now (vs .entry))) (c .0) ⌝ }
+{
+    let i = c.0 as usize;
+    if i < both {
+        return Flat { u: us[i], v: vs[i] };
+    }
+    flat_at(us, vs, c)
+}
+
+// The first place from `from` on whose corner stands in the way.
+fn find_block(
+    us: &[f32],
+    vs: &[f32],
+    ring: &[u32],
+    t: Corners,
+    a: Flat,
+    b: Flat,
+    c: Flat,
+    from: usize,
+) -> Found
+    ensures { λ r. ⌜ r ≡ first (blocks (flats (now (us .entry)) (now (vs .entry))) t a b c (now (ring .entry))) (length (now (ring .entry)) - from) from ⌝ }
+{
+    let both = common(us, vs);
+    let mut k = from;
     while k < ring.len() {
         let p = CornerNumber(ring[k]);
-        if !clear(t, a, b, c, p, flat_at(us, vs, p)) {
+        if !clear(t, a, b, c, p, flat_in(us, vs, both, p)) {
             return Found::At(k);
         }
         k += 1;
@@ -48,41 +78,62 @@ fn find_block(us: &[f32], vs: &[f32], ring: &[u32], t: Corners, a: Flat, b: Flat
     Found::Nowhere
 }
 
-// Whether the corner at a place is an ear, and why not.
-fn test_place(us: &[f32], vs: &[f32], ring: &[u32], at: RingPlace) -> Tested
+// What the corners from place `from` on tell of a place at a, b, c.
+fn test_corners(
+    us: &[f32],
+    vs: &[f32],
+    ring: &[u32],
+    t: Corners,
+    a: Flat,
+    b: Flat,
+    c: Flat,
+    from: usize,
+) -> Tested
+    ensures { λ r. ⌜ r ≡ told (behind (first (blocks (flats (now (us .entry)) (now (vs .entry))) t a b c (now (ring .entry))) (length (now (ring .entry)) - from) from)) ⌝ }
+{
+    let Found::At(k) = find_block(us, vs, ring, t, a, b, c, from) else {
+        return Tested::Ear;
+    };
+    Tested::No(failed(k))
+}
+
+// What the tests of a place tell, from the first on that its note q says nothing of.
+fn test_place(us: &[f32], vs: &[f32], ring: &[u32], at: RingPlace, q: u32) -> Tested
     requires { ⌜ at .0 < length (now ring) ⌝ }
-    ensures { λ r. ⌜ Tells (flats (now (us .entry)) (now (vs .entry))) (now (ring .entry)) (at .0) r ⌝ }
+    ensures { λ r. ⌜ r ≡ tested (flats (now (us .entry)) (now (vs .entry))) (now (ring .entry)) (at .0) q ⌝ }
 {
     let t = corners_at(ring, at);
     let a = flat_at(us, vs, t.a);
     let b = flat_at(us, vs, t.b);
     let c = flat_at(us, vs, t.c);
+    if 1 < q {
+        return test_corners(us, vs, ring, t, a, b, c, (q / 2 - 1) as usize);
+    }
     if turn(a, b, c) > 0.0 {
-        let Found::At(k) = find_block(us, vs, ring, t, a, b, c) else {
-            return Tested::Ear;
-        };
-        return Tested::No(ring[k]);
+        return test_corners(us, vs, ring, t, a, b, c, 0);
     }
     Tested::No(UNTURNED)
 }
 
-// The first place that is an ear. A place with a note is passed over, and what is found of the others is noted.
+// The first place that is an ear. A place that is noted to fail a test is passed over, and what is found of the others is noted.
 pub fn find_ear(us: &[f32], vs: &[f32], ring: &[u32], why: &mut [u32]) -> Found
     requires { ⌜ length (now why) ≡ length (now ring) ⌝ }
     requires { ⌜ Known (flats (now us) (now vs)) (now ring) (now why) ⌝ }
     ensures { λ r. ⌜ r ≡ first (isEar (flats (now (us .entry)) (now (vs .entry))) (now (ring .entry))) (length (now (ring .entry))) 0 ⌝ }
-    ensures { λ r. ⌜ Known (flats (now (us .entry)) (now (vs .entry))) (now (ring .entry)) (now (why .exit)) ⌝ }
+    ensures { λ _. ⌜ now (why .exit) ≡ searched (flats (now (us .entry)) (now (vs .entry))) (now (ring .entry)) (length (now (ring .entry))) 0 (now (why .entry)) ⌝ }
+    ensures { λ _. ⌜ Known (flats (now (us .entry)) (now (vs .entry))) (now (ring .entry)) (now (why .exit)) ⌝ }
 {
     let mut i = 0;
     while i < ring.len() {
-        if why[i] != UNKNOWN {
+        let q = why[i];
+        if q % 2 == 1 {
             i += 1;
             continue;
         }
-        let Tested::No(q) = test_place(us, vs, ring, RingPlace(i)) else {
+        let Tested::No(w) = test_place(us, vs, ring, RingPlace(i), q) else {
             return Found::At(i);
         };
-        why[i] = q;
+        why[i] = w;
         i += 1;
     }
     Found::Nowhere

@@ -1,41 +1,33 @@
--- Notes of the faster ear search: for each place of a ring, why it is no ear, or that nothing is known of it; and what is left of them where a
--- corner is removed. Definitions only.
-use mathlib.Core.Path.{_≡_}
+-- Notes of how far the tests of a ring's places have come: 2 j where the tests below test j pass, 2 j + 1 where test j fails besides. Test 0 of a
+-- place is its turn, test k + 1 the corner at place k. Definitions only.
 use mathlib.Core.Bool.{cond}
-use mathlib.Core.List.{List}
-use Prim.Native.Nat.{ℕ, suc, _<_, _≤_}
-use lib.ListN.{length, getD}
-use lib.Dec.{eqb}
-use Rattle.lists.specs.Loops.{next, previous}
+use mathlib.Core.List.{List, map}
+use Prim.Native.Nat.{ℕ, _+_, _-_, _*_}
+use lib.ListN.{length, set}
+use lib.Dec.{ltb}
+use Rattle.lists.specs.Loops.{next, previous, removeAt}
 
--- the note of a place of which nothing is known
-abbrev pub unknown : ℕ
-unknown = 4294967295
+-- the note where test j is the first to fail; where the number is too large for a note, the greatest that says only that tests pass
+unfoldable pub failedAt : ℕ → ℕ
+failedAt j = cond (ltb j 2147483647) (2 * j + 1) 4294967294
 
--- nothing is known of any place
-pub record Blank (why : List ℕ) : Type 0 where
-  pub blank : (k : ℕ) → k < length why → getD why k 0 ≡ unknown
+-- one less, above low
+unfoldable pub down : ℕ → ℕ → ℕ
+down low q = cond (ltb low q) (q - 1) q
 
--- a note, if it does not name b
-unfoldable pub keptOf : ℕ → ℕ → ℕ
-keptOf w b = cond (eqb w b) unknown w
+-- a note where a test is taken out on which only notes above `low` rest: `low` where that test failed, as the next one is yet to be made; two less,
+-- by one test, where it rests on later ones
+unfoldable pub movedBy : ℕ → ℕ → ℕ
+movedBy low q = down low (down low q)
 
--- the notes without those that name b
-pub record Kept (b : ℕ) (old new : List ℕ) : Type 0 where
-  pub kept : (k : ℕ) → k < length old → getD new k 0 ≡ keptOf (getD old k 0) b
+-- the same where the corner at place i is removed
+abbrev pub moved : ℕ → ℕ → ℕ
+moved i q = movedBy (2 * i + 2) q
 
--- q is the note of place o, which is no neighbour of place i, and does not name the corner there
-pub record Lasts (ring : List ℕ) (i : ℕ) (old : List ℕ) (o q : ℕ) : Type 0 where
-  pub same : q ≡ getD old o 0
-  pub off-previous : o ≡ previous (length ring) i → ⊥
-  pub off-next : o ≡ next (length ring) i → ⊥
-  pub other : q ≡ getD ring i 0 → ⊥
+-- that bound, as far as notes go
+unfoldable pub capped : ℕ → ℕ
+capped i = cond (ltb i 2147483647) (2 * i + 2) 4294967295
 
--- what is left of the notes where the corner at place i is to be removed
-pub record Loose (ring : List ℕ) (i : ℕ) (old new : List ℕ) : Type 0 where
-  pub loose : (k : ℕ) → k < length ring → (getD new k 0 ≡ unknown → ⊥) → Lasts ring i old k (getD new k 0)
-
--- the notes after that: those behind place i moved down
-pub record Forgot (ring : List ℕ) (i : ℕ) (old new : List ℕ) : Type 0 where
-  pub low : (k : ℕ) → k < i → (getD new k 0 ≡ unknown → ⊥) → Lasts ring i old k (getD new k 0)
-  pub high : (k : ℕ) → i ≤ k → suc k < length ring → (getD new k 0 ≡ unknown → ⊥) → Lasts ring i old (suc k) (getD new k 0)
+-- the notes of a ring where the corner at place i is removed: those of its neighbours, whose triangles change, start anew, and the others move
+unfoldable pub without : ℕ → List ℕ → List ℕ
+without i why = map (moved i) (removeAt i (set (set why (previous (length why) i) 0) (next (length why) i) 0))

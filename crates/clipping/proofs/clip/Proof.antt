@@ -7,7 +7,7 @@ use lib.ListN.{take, drop}
 use lib.Seq.{length-take-le}
 use borrow.Author.Needs.{needs}
 use Rattle.clipping.proofs.ClipRun.{ring-room, why-room, Clipping, clip-start, clip-again, clip-end, step-in, step-over}
-use Rattle.ears.proofs.EarLaws.{Noting, noting-start, noting-mid, noting-again, both-long, known-cut}
+use Rattle.ears.proofs.EarLaws.{Noting, noting-start, noting-mid, noting-again, both-long}
 use Rattle.lid.specs.Rings.{flats}
 use Rattle.clipping.proofs.clip.Statement.{statement}
 use Rattle.clipping.proofs.clip.Tie as tie
@@ -22,7 +22,7 @@ abbrev μ-loop : tie.MeasureT-loop
 loop-holds : tie.Need-loop-holds Inv-loop μ-loop
 loop-holds c =
     let a = c .before .before .before .before .before .before .before .before .before .before .args in
-    (clip-start (flats (now (a .us)) (now (a .vs))) (now (a .ring)) (now (a .log)) (a .n) (now (a .triangles)), noting-start (flats (now (a .us)) (now (a .vs))) (c .before .before .forget-all .last .0) (now (a .ring)) (c .before .before .forget-all .last .0) refl (omega (arith, c .before .before .forget-all .kept .0, c .before .before .before .before .before .before .before .before .before .before .pre .1)) (c .before .before .forget-all .ensures))
+    (clip-start (flats (now (a .us)) (now (a .vs))) (now (a .ring)) (now (a .log)) (a .n) (now (a .triangles)), noting-start (flats (now (a .us)) (now (a .vs))) (c .before .before .forget-all .last .0) (now (a .ring)) (c .before .before .forget-all .last .0) refl (omega (arith, c .before .before .forget-all .kept .0, c .before .before .before .before .before .before .before .before .before .before .pre .1)) _ (c .before .before .forget-all .ensures) (c .before .before .before .before .before .before .before .before .before .before .pre .1))
 
 slice-reshare-prefix-clip-step : tie.Need-slice-reshare-prefix-clip-step Inv-loop μ-loop
 slice-reshare-prefix-clip-step c = (ring-room (c .loop .inv .0 .long) (c .loop .inv .0 .fewer))
@@ -49,7 +49,7 @@ same-length-2 : tie.Need-same-length-2 Inv-loop μ-loop
 same-length-2 c =
     let a = c .before .before .before .before .before .before .before .before .before .before .before .before .before .before .before .before .before .before .args in
     let l = c .before .before .before .before .before .before .before .loop in
-    (noting-mid (flats (now (a .us)) (now (a .vs))) (c .before .before .before .before .before .before .before .before .before .before .forget-all .last .0) (l .ring) (l .why) (l .left) (ring-room (c .before .before .before .before .before .before .before .loop .inv .0 .long) (c .before .before .before .before .before .before .before .loop .inv .0 .fewer)) (why-room (c .before .before .before .before .before .before .before .before .before .before .forget-all .kept .0) (c .before .before .before .before .before .before .before .loop .inv .1 .why-long) (c .before .before .before .before .before .before .before .loop .inv .0 .fewer) (c .before .before .before .before .before .before .before .before .before .before .before .before .before .before .before .before .before .before .pre .1)) (c .before .before .before .before .clip-step .last .1 .1 .1 .0) (c .before .before .before .before .clip-step .kept .1 .1 .1 .0) (c .before .before .before .before .before .before .before .loop .inv .1 .why-long) (c .before .before .before .before .clip-step .ensures .1)) .why-long ∙ c .before .before .before .before .before .before .before .before .before .before .forget-all .kept .0
+    (noting-mid (flats (now (a .us)) (now (a .vs))) (c .before .before .before .before .before .before .before .before .before .before .forget-all .last .0) (l .ring) (l .why) (l .left) (ring-room (c .before .before .before .before .before .before .before .loop .inv .0 .long) (c .before .before .before .before .before .before .before .loop .inv .0 .fewer)) (why-room (c .before .before .before .before .before .before .before .before .before .before .forget-all .kept .0) (c .before .before .before .before .before .before .before .loop .inv .1 .why-long) (c .before .before .before .before .before .before .before .loop .inv .0 .fewer) (c .before .before .before .before .before .before .before .before .before .before .before .before .before .before .before .before .before .before .pre .1)) (c .before .before .before .before .clip-step .last .1 .1 .1 .0) (c .before .before .before .before .clip-step .kept .1 .1 .1 .0) (c .before .before .before .before .before .before .before .loop .inv .1 .why-long) (c .before .before .before .before .clip-step .ensures .1 .0)) .why-long ∙ c .before .before .before .before .before .before .before .before .before .before .forget-all .kept .0
 
 same-length-3 : tie.Need-same-length-3 Inv-loop μ-loop
 same-length-3 c = c .before .before .before .before .before .before .before .loop .inv .0 .log-long
@@ -73,19 +73,19 @@ slice-relend-prefix-cut-2 : tie.Need-slice-relend-prefix-cut-2 Inv-loop μ-loop
 slice-relend-prefix-cut-2 c =
     let a = c .before .before .before .before .before .before .before .before .before .before .before .before .before .before .before .before .before .before .before .before .args in
     let l = c .before .before .before .before .before .before .before .before .before .loop in
-    (why-room (c .before .before .before .before .before .before .before .before .before .before .before .before .forget-all .kept .0) ((noting-mid (flats (now (a .us)) (now (a .vs))) (c .before .before .before .before .before .before .before .before .before .before .before .before .forget-all .last .0) (l .ring) (l .why) (l .left) (ring-room (c .before .before .before .before .before .before .before .before .before .loop .inv .0 .long) (c .before .before .before .before .before .before .before .before .before .loop .inv .0 .fewer)) (why-room (c .before .before .before .before .before .before .before .before .before .before .before .before .forget-all .kept .0) (c .before .before .before .before .before .before .before .before .before .loop .inv .1 .why-long) (c .before .before .before .before .before .before .before .before .before .loop .inv .0 .fewer) (c .before .before .before .before .before .before .before .before .before .before .before .before .before .before .before .before .before .before .before .before .pre .1)) (c .before .before .before .before .before .before .clip-step .last .1 .1 .1 .0) (c .before .before .before .before .before .before .clip-step .kept .1 .1 .1 .0) (c .before .before .before .before .before .before .before .before .before .loop .inv .1 .why-long) (c .before .before .before .before .before .before .clip-step .ensures .1)) .why-long) (c .before .before .before .before .before .before .before .before .before .loop .inv .0 .fewer) (c .before .before .before .before .before .before .before .before .before .before .before .before .before .before .before .before .before .before .before .before .pre .1))
+    (why-room (c .before .before .before .before .before .before .before .before .before .before .before .before .forget-all .kept .0) ((noting-mid (flats (now (a .us)) (now (a .vs))) (c .before .before .before .before .before .before .before .before .before .before .before .before .forget-all .last .0) (l .ring) (l .why) (l .left) (ring-room (c .before .before .before .before .before .before .before .before .before .loop .inv .0 .long) (c .before .before .before .before .before .before .before .before .before .loop .inv .0 .fewer)) (why-room (c .before .before .before .before .before .before .before .before .before .before .before .before .forget-all .kept .0) (c .before .before .before .before .before .before .before .before .before .loop .inv .1 .why-long) (c .before .before .before .before .before .before .before .before .before .loop .inv .0 .fewer) (c .before .before .before .before .before .before .before .before .before .before .before .before .before .before .before .before .before .before .before .before .pre .1)) (c .before .before .before .before .before .before .clip-step .last .1 .1 .1 .0) (c .before .before .before .before .before .before .clip-step .kept .1 .1 .1 .0) (c .before .before .before .before .before .before .before .before .before .loop .inv .1 .why-long) (c .before .before .before .before .before .before .clip-step .ensures .1 .0)) .why-long) (c .before .before .before .before .before .before .before .before .before .loop .inv .0 .fewer) (c .before .before .before .before .before .before .before .before .before .before .before .before .before .before .before .before .before .before .before .before .pre .1))
 
 slice-aggregate-cut-2 : tie.Need-slice-aggregate-cut-2 Inv-loop μ-loop
 slice-aggregate-cut-2 c =
     let a = c .before .before .before .before .before .before .before .before .before .before .before .before .before .before .before .before .before .before .before .before .before .args in
     let l = c .before .before .before .before .before .before .before .before .before .before .loop in
-    sym (length-take-le _ _ (why-room (c .before .before .before .before .before .before .before .before .before .before .before .before .before .forget-all .kept .0) ((noting-mid (flats (now (a .us)) (now (a .vs))) (c .before .before .before .before .before .before .before .before .before .before .before .before .before .forget-all .last .0) (l .ring) (l .why) (l .left) (ring-room (c .before .before .before .before .before .before .before .before .before .before .loop .inv .0 .long) (c .before .before .before .before .before .before .before .before .before .before .loop .inv .0 .fewer)) (why-room (c .before .before .before .before .before .before .before .before .before .before .before .before .before .forget-all .kept .0) (c .before .before .before .before .before .before .before .before .before .before .loop .inv .1 .why-long) (c .before .before .before .before .before .before .before .before .before .before .loop .inv .0 .fewer) (c .before .before .before .before .before .before .before .before .before .before .before .before .before .before .before .before .before .before .before .before .before .pre .1)) (c .before .before .before .before .before .before .before .clip-step .last .1 .1 .1 .0) (c .before .before .before .before .before .before .before .clip-step .kept .1 .1 .1 .0) (c .before .before .before .before .before .before .before .before .before .before .loop .inv .1 .why-long) (c .before .before .before .before .before .before .before .clip-step .ensures .1)) .why-long) (c .before .before .before .before .before .before .before .before .before .before .loop .inv .0 .fewer) (c .before .before .before .before .before .before .before .before .before .before .before .before .before .before .before .before .before .before .before .before .before .pre .1)))
+    sym (length-take-le _ _ (why-room (c .before .before .before .before .before .before .before .before .before .before .before .before .before .forget-all .kept .0) ((noting-mid (flats (now (a .us)) (now (a .vs))) (c .before .before .before .before .before .before .before .before .before .before .before .before .before .forget-all .last .0) (l .ring) (l .why) (l .left) (ring-room (c .before .before .before .before .before .before .before .before .before .before .loop .inv .0 .long) (c .before .before .before .before .before .before .before .before .before .before .loop .inv .0 .fewer)) (why-room (c .before .before .before .before .before .before .before .before .before .before .before .before .before .forget-all .kept .0) (c .before .before .before .before .before .before .before .before .before .before .loop .inv .1 .why-long) (c .before .before .before .before .before .before .before .before .before .before .loop .inv .0 .fewer) (c .before .before .before .before .before .before .before .before .before .before .before .before .before .before .before .before .before .before .before .before .before .pre .1)) (c .before .before .before .before .before .before .before .clip-step .last .1 .1 .1 .0) (c .before .before .before .before .before .before .before .clip-step .kept .1 .1 .1 .0) (c .before .before .before .before .before .before .before .before .before .before .loop .inv .1 .why-long) (c .before .before .before .before .before .before .before .clip-step .ensures .1 .0)) .why-long) (c .before .before .before .before .before .before .before .before .before .before .loop .inv .0 .fewer) (c .before .before .before .before .before .before .before .before .before .before .before .before .before .before .before .before .before .before .before .before .before .pre .1)))
 
 cut-requires : tie.Need-cut-requires Inv-loop μ-loop
 cut-requires c κs =
     let a = c .before .before .before .before .before .before .before .before .before .before .before .before .before .before .before .before .before .before .before .before .before .before .before .args in
     let l = c .before .before .before .before .before .before .before .before .before .before .before .before .loop in
-    (step-in (flats (now (a .us)) (now (a .vs))) (take (l .left) (l .ring)) _ _ (sym (c .before .before .before .before .before .before .before .before .before .clip-step .ensures .0) ∙ c .before .before .before .before .before .mark .given .1), (both-long (flats (now (a .us)) (now (a .vs))) [] (l .ring) ((c .before .before .before .before .before .before .before .before .before .clip-step .last .1 .1 .1 .0) ++ drop (l .left) (l .why)) (l .left) (ring-room (c .before .before .before .before .before .before .before .before .before .before .before .before .loop .inv .0 .long) (c .before .before .before .before .before .before .before .before .before .before .before .before .loop .inv .0 .fewer)) (why-room (c .before .before .before .before .before .before .before .before .before .before .before .before .before .before .before .forget-all .kept .0) ((noting-mid (flats (now (a .us)) (now (a .vs))) (c .before .before .before .before .before .before .before .before .before .before .before .before .before .before .before .forget-all .last .0) (l .ring) (l .why) (l .left) (ring-room (c .before .before .before .before .before .before .before .before .before .before .before .before .loop .inv .0 .long) (c .before .before .before .before .before .before .before .before .before .before .before .before .loop .inv .0 .fewer)) (why-room (c .before .before .before .before .before .before .before .before .before .before .before .before .before .before .before .forget-all .kept .0) (c .before .before .before .before .before .before .before .before .before .before .before .before .loop .inv .1 .why-long) (c .before .before .before .before .before .before .before .before .before .before .before .before .loop .inv .0 .fewer) (c .before .before .before .before .before .before .before .before .before .before .before .before .before .before .before .before .before .before .before .before .before .before .before .pre .1)) (c .before .before .before .before .before .before .before .before .before .clip-step .last .1 .1 .1 .0) (c .before .before .before .before .before .before .before .before .before .clip-step .kept .1 .1 .1 .0) (c .before .before .before .before .before .before .before .before .before .before .before .before .loop .inv .1 .why-long) (c .before .before .before .before .before .before .before .before .before .clip-step .ensures .1)) .why-long) (c .before .before .before .before .before .before .before .before .before .before .before .before .loop .inv .0 .fewer) (c .before .before .before .before .before .before .before .before .before .before .before .before .before .before .before .before .before .before .before .before .before .before .before .pre .1)), omega (arith, step-over (flats (now (a .us)) (now (a .vs))) (take (l .left) (l .ring)) _ _ (sym (c .before .before .before .before .before .before .before .before .before .clip-step .ensures .0) ∙ c .before .before .before .before .before .mark .given .1), length-take-le (l .left) (l .ring) (ring-room (c .before .before .before .before .before .before .before .before .before .before .before .before .loop .inv .0 .long) (c .before .before .before .before .before .before .before .before .before .before .before .before .loop .inv .0 .fewer)), c .before .before .before .before .before .before .before .before .before .before .before .before .loop .inv .0 .fewer, c .before .before .before .before .before .before .before .before .before .before .before .before .loop .inv .0 .few, c .before .before .before .before .before .before .before .before .before .before .before .before .before .before .before .before .before .before .before .before .before .before .before .pre .0)))
+    (step-in (flats (now (a .us)) (now (a .vs))) (take (l .left) (l .ring)) _ _ (sym (c .before .before .before .before .before .before .before .before .before .clip-step .ensures .0) ∙ c .before .before .before .before .before .mark .given .1), (both-long (flats (now (a .us)) (now (a .vs))) [] (l .ring) ((c .before .before .before .before .before .before .before .before .before .clip-step .last .1 .1 .1 .0) ++ drop (l .left) (l .why)) (l .left) (ring-room (c .before .before .before .before .before .before .before .before .before .before .before .before .loop .inv .0 .long) (c .before .before .before .before .before .before .before .before .before .before .before .before .loop .inv .0 .fewer)) (why-room (c .before .before .before .before .before .before .before .before .before .before .before .before .before .before .before .forget-all .kept .0) ((noting-mid (flats (now (a .us)) (now (a .vs))) (c .before .before .before .before .before .before .before .before .before .before .before .before .before .before .before .forget-all .last .0) (l .ring) (l .why) (l .left) (ring-room (c .before .before .before .before .before .before .before .before .before .before .before .before .loop .inv .0 .long) (c .before .before .before .before .before .before .before .before .before .before .before .before .loop .inv .0 .fewer)) (why-room (c .before .before .before .before .before .before .before .before .before .before .before .before .before .before .before .forget-all .kept .0) (c .before .before .before .before .before .before .before .before .before .before .before .before .loop .inv .1 .why-long) (c .before .before .before .before .before .before .before .before .before .before .before .before .loop .inv .0 .fewer) (c .before .before .before .before .before .before .before .before .before .before .before .before .before .before .before .before .before .before .before .before .before .before .before .pre .1)) (c .before .before .before .before .before .before .before .before .before .clip-step .last .1 .1 .1 .0) (c .before .before .before .before .before .before .before .before .before .clip-step .kept .1 .1 .1 .0) (c .before .before .before .before .before .before .before .before .before .before .before .before .loop .inv .1 .why-long) (c .before .before .before .before .before .before .before .before .before .clip-step .ensures .1 .0)) .why-long) (c .before .before .before .before .before .before .before .before .before .before .before .before .loop .inv .0 .fewer) (c .before .before .before .before .before .before .before .before .before .before .before .before .before .before .before .before .before .before .before .before .before .before .before .pre .1)), omega (arith, step-over (flats (now (a .us)) (now (a .vs))) (take (l .left) (l .ring)) _ _ (sym (c .before .before .before .before .before .before .before .before .before .clip-step .ensures .0) ∙ c .before .before .before .before .before .mark .given .1), length-take-le (l .left) (l .ring) (ring-room (c .before .before .before .before .before .before .before .before .before .before .before .before .loop .inv .0 .long) (c .before .before .before .before .before .before .before .before .before .before .before .before .loop .inv .0 .fewer)), c .before .before .before .before .before .before .before .before .before .before .before .before .loop .inv .0 .fewer, c .before .before .before .before .before .before .before .before .before .before .before .before .loop .inv .0 .few, c .before .before .before .before .before .before .before .before .before .before .before .before .before .before .before .before .before .before .before .before .before .before .before .pre .0)))
 
 sub-left : tie.Need-sub-left Inv-loop μ-loop
 sub-left c =
@@ -109,7 +109,13 @@ loop-again : tie.Need-loop-again Inv-loop μ-loop
 loop-again c =
     let a = c .before .before .before .before .before .before .before .before .before .before .before .before .before .before .before .before .before .before .before .before .before .before .before .before .before .before .before .before .before .before .before .before .args in
     let l = c .before .before .before .before .before .before .before .before .before .before .before .before .before .before .before .before .before .before .before .before .before .loop in
-    (clip-again (flats (now (a .us)) (now (a .vs))) (now (a .ring)) (now (a .log)) (a .n) (now (a .triangles)) (l .ring) (l .log) (l .triangles) (c .before .before .before .before .before .before .before .before .cut .last .0) (c .before .before .before .before .before .before .before .before .cut .last .1 .1 .0) (c .before .before .before .before .before .before .before .before .cut .last .1 .1 .1 .1 .0) (l .left) (l .entries) (l .count) _ _ _ (c .before .before .before .before .before .before .before .before .before .before .before .before .before .before .before .before .before .before .before .before .before .loop .inv .0) (sym (c .before .before .before .before .before .before .before .before .before .before .before .before .before .before .before .before .before .before .clip-step .ensures .0) ∙ c .before .before .before .before .before .before .before .before .before .before .before .before .before .before .mark .given .1) (c .before .before .before .before .before .before .before .before .cut .kept .0) (c .before .before .before .before .before .before .before .before .cut .kept .1 .1 .0) (c .before .before .before .before .before .before .before .before .cut .kept .1 .1 .1 .1 .0) (c .before .before .before .before .before .before .before .before .cut .ensures .0), noting-again (flats (now (a .us)) (now (a .vs))) (c .before .before .before .before .before .before .before .before .before .before .before .before .before .before .before .before .before .before .before .before .before .before .before .before .forget-all .last .0) (l .ring) ((c .before .before .before .before .before .before .before .before .before .before .before .before .before .before .before .before .before .before .clip-step .last .1 .1 .1 .0) ++ drop (l .left) (l .why)) (l .left) (ring-room (c .before .before .before .before .before .before .before .before .before .before .before .before .before .before .before .before .before .before .before .before .before .loop .inv .0 .long) (c .before .before .before .before .before .before .before .before .before .before .before .before .before .before .before .before .before .before .before .before .before .loop .inv .0 .fewer)) (why-room (c .before .before .before .before .before .before .before .before .before .before .before .before .before .before .before .before .before .before .before .before .before .before .before .before .forget-all .kept .0) ((noting-mid (flats (now (a .us)) (now (a .vs))) (c .before .before .before .before .before .before .before .before .before .before .before .before .before .before .before .before .before .before .before .before .before .before .before .before .forget-all .last .0) (l .ring) (l .why) (l .left) (ring-room (c .before .before .before .before .before .before .before .before .before .before .before .before .before .before .before .before .before .before .before .before .before .loop .inv .0 .long) (c .before .before .before .before .before .before .before .before .before .before .before .before .before .before .before .before .before .before .before .before .before .loop .inv .0 .fewer)) (why-room (c .before .before .before .before .before .before .before .before .before .before .before .before .before .before .before .before .before .before .before .before .before .before .before .before .forget-all .kept .0) (c .before .before .before .before .before .before .before .before .before .before .before .before .before .before .before .before .before .before .before .before .before .loop .inv .1 .why-long) (c .before .before .before .before .before .before .before .before .before .before .before .before .before .before .before .before .before .before .before .before .before .loop .inv .0 .fewer) (c .before .before .before .before .before .before .before .before .before .before .before .before .before .before .before .before .before .before .before .before .before .before .before .before .before .before .before .before .before .before .before .before .pre .1)) (c .before .before .before .before .before .before .before .before .before .before .before .before .before .before .before .before .before .before .clip-step .last .1 .1 .1 .0) (c .before .before .before .before .before .before .before .before .before .before .before .before .before .before .before .before .before .before .clip-step .kept .1 .1 .1 .0) (c .before .before .before .before .before .before .before .before .before .before .before .before .before .before .before .before .before .before .before .before .before .loop .inv .1 .why-long) (c .before .before .before .before .before .before .before .before .before .before .before .before .before .before .before .before .before .before .clip-step .ensures .1)) .why-long) (c .before .before .before .before .before .before .before .before .before .before .before .before .before .before .before .before .before .before .before .before .before .loop .inv .0 .fewer) (c .before .before .before .before .before .before .before .before .before .before .before .before .before .before .before .before .before .before .before .before .before .before .before .before .before .before .before .before .before .before .before .before .pre .1)) (c .before .before .before .before .before .before .before .before .cut .last .0) (c .before .before .before .before .before .before .before .before .cut .last .1 .0) _ ((noting-mid (flats (now (a .us)) (now (a .vs))) (c .before .before .before .before .before .before .before .before .before .before .before .before .before .before .before .before .before .before .before .before .before .before .before .before .forget-all .last .0) (l .ring) (l .why) (l .left) (ring-room (c .before .before .before .before .before .before .before .before .before .before .before .before .before .before .before .before .before .before .before .before .before .loop .inv .0 .long) (c .before .before .before .before .before .before .before .before .before .before .before .before .before .before .before .before .before .before .before .before .before .loop .inv .0 .fewer)) (why-room (c .before .before .before .before .before .before .before .before .before .before .before .before .before .before .before .before .before .before .before .before .before .before .before .before .forget-all .kept .0) (c .before .before .before .before .before .before .before .before .before .before .before .before .before .before .before .before .before .before .before .before .before .loop .inv .1 .why-long) (c .before .before .before .before .before .before .before .before .before .before .before .before .before .before .before .before .before .before .before .before .before .loop .inv .0 .fewer) (c .before .before .before .before .before .before .before .before .before .before .before .before .before .before .before .before .before .before .before .before .before .before .before .before .before .before .before .before .before .before .before .before .pre .1)) (c .before .before .before .before .before .before .before .before .before .before .before .before .before .before .before .before .before .before .clip-step .last .1 .1 .1 .0) (c .before .before .before .before .before .before .before .before .before .before .before .before .before .before .before .before .before .before .clip-step .kept .1 .1 .1 .0) (c .before .before .before .before .before .before .before .before .before .before .before .before .before .before .before .before .before .before .before .before .before .loop .inv .1 .why-long) (c .before .before .before .before .before .before .before .before .before .before .before .before .before .before .before .before .before .before .clip-step .ensures .1)) .why-long) (c .before .before .before .before .before .before .before .before .cut .kept .1 .0) (c .before .before .before .before .before .before .before .before .cut .kept .0) (c .before .before .before .before .before .before .before .before .cut .ensures .0 .removed) (known-cut (flats (now (a .us)) (now (a .vs))) (take (l .left) (l .ring)) (take (l .left) ((c .before .before .before .before .before .before .before .before .before .before .before .before .before .before .before .before .before .before .clip-step .last .1 .1 .1 .0) ++ drop (l .left) (l .why))) (c .before .before .before .before .before .before .before .before .cut .last .1 .0) _ (step-in (flats (now (a .us)) (now (a .vs))) (take (l .left) (l .ring)) _ _ (sym (c .before .before .before .before .before .before .before .before .before .before .before .before .before .before .before .before .before .before .clip-step .ensures .0) ∙ c .before .before .before .before .before .before .before .before .before .before .before .before .before .before .mark .given .1)) ((noting-mid (flats (now (a .us)) (now (a .vs))) (c .before .before .before .before .before .before .before .before .before .before .before .before .before .before .before .before .before .before .before .before .before .before .before .before .forget-all .last .0) (l .ring) (l .why) (l .left) (ring-room (c .before .before .before .before .before .before .before .before .before .before .before .before .before .before .before .before .before .before .before .before .before .loop .inv .0 .long) (c .before .before .before .before .before .before .before .before .before .before .before .before .before .before .before .before .before .before .before .before .before .loop .inv .0 .fewer)) (why-room (c .before .before .before .before .before .before .before .before .before .before .before .before .before .before .before .before .before .before .before .before .before .before .before .before .forget-all .kept .0) (c .before .before .before .before .before .before .before .before .before .before .before .before .before .before .before .before .before .before .before .before .before .loop .inv .1 .why-long) (c .before .before .before .before .before .before .before .before .before .before .before .before .before .before .before .before .before .before .before .before .before .loop .inv .0 .fewer) (c .before .before .before .before .before .before .before .before .before .before .before .before .before .before .before .before .before .before .before .before .before .before .before .before .before .before .before .before .before .before .before .before .pre .1)) (c .before .before .before .before .before .before .before .before .before .before .before .before .before .before .before .before .before .before .clip-step .last .1 .1 .1 .0) (c .before .before .before .before .before .before .before .before .before .before .before .before .before .before .before .before .before .before .clip-step .kept .1 .1 .1 .0) (c .before .before .before .before .before .before .before .before .before .before .before .before .before .before .before .before .before .before .before .before .before .loop .inv .1 .why-long) (c .before .before .before .before .before .before .before .before .before .before .before .before .before .before .before .before .before .before .clip-step .ensures .1)) .known) (c .before .before .before .before .before .before .before .before .cut .ensures .1)) (step-in (flats (now (a .us)) (now (a .vs))) (take (l .left) (l .ring)) _ _ (sym (c .before .before .before .before .before .before .before .before .before .before .before .before .before .before .before .before .before .before .clip-step .ensures .0) ∙ c .before .before .before .before .before .before .before .before .before .before .before .before .before .before .mark .given .1)))
+    let fs = flats (now (a .us)) (now (a .vs)) in
+    let room = ring-room (l .inv .0 .long) (l .inv .0 .fewer) in
+    let cut = sym (c .before .before .before .before .before .before .before .before .before .before .before .before .before .before .before .before .before .before .clip-step .ensures .0) ∙ c .before .before .before .before .before .before .before .before .before .before .before .before .before .before .mark .given .1 in
+    let mid = noting-mid fs (c .before .before .before .before .before .before .before .before .before .before .before .before .before .before .before .before .before .before .before .before .before .before .before .before .forget-all .last .0) (l .ring) (l .why) (l .left) room (why-room (c .before .before .before .before .before .before .before .before .before .before .before .before .before .before .before .before .before .before .before .before .before .before .before .before .forget-all .kept .0) (l .inv .1 .why-long) (l .inv .0 .fewer) (c .before .before .before .before .before .before .before .before .before .before .before .before .before .before .before .before .before .before .before .before .before .before .before .before .before .before .before .before .before .before .before .before .pre .1)) (c .before .before .before .before .before .before .before .before .before .before .before .before .before .before .before .before .before .before .clip-step .last .1 .1 .1 .0) (c .before .before .before .before .before .before .before .before .before .before .before .before .before .before .before .before .before .before .clip-step .kept .1 .1 .1 .0) (l .inv .1 .why-long) (c .before .before .before .before .before .before .before .before .before .before .before .before .before .before .before .before .before .before .clip-step .ensures .1 .0) in (
+      clip-again fs (now (a .ring)) (now (a .log)) (a .n) (now (a .triangles)) (l .ring) (l .log) (l .triangles) (c .before .before .before .before .before .before .before .before .cut .last .0) (c .before .before .before .before .before .before .before .before .cut .last .1 .1 .0) (c .before .before .before .before .before .before .before .before .cut .last .1 .1 .1 .1 .0) (l .left) (l .entries) (l .count) _ _ _ (l .inv .0) cut (c .before .before .before .before .before .before .before .before .cut .kept .0) (c .before .before .before .before .before .before .before .before .cut .kept .1 .1 .0) (c .before .before .before .before .before .before .before .before .cut .kept .1 .1 .1 .1 .0) (c .before .before .before .before .before .before .before .before .cut .ensures .0),
+      noting-again fs (c .before .before .before .before .before .before .before .before .before .before .before .before .before .before .before .before .before .before .before .before .before .before .before .before .forget-all .last .0) (l .ring) ((c .before .before .before .before .before .before .before .before .before .before .before .before .before .before .before .before .before .before .clip-step .last .1 .1 .1 .0) ++ drop (l .left) (l .why)) (l .left) room (why-room (c .before .before .before .before .before .before .before .before .before .before .before .before .before .before .before .before .before .before .before .before .before .before .before .before .forget-all .kept .0) (mid .why-long) (l .inv .0 .fewer) (c .before .before .before .before .before .before .before .before .before .before .before .before .before .before .before .before .before .before .before .before .before .before .before .before .before .before .before .before .before .before .before .before .pre .1)) mid (c .before .before .before .before .before .before .before .before .cut .last .0) (c .before .before .before .before .before .before .before .before .cut .last .1 .0) _ (c .before .before .before .before .before .before .before .before .cut .kept .1 .0) (c .before .before .before .before .before .before .before .before .cut .kept .0) (c .before .before .before .before .before .before .before .before .cut .ensures .0 .removed) (c .before .before .before .before .before .before .before .before .cut .ensures .1) (step-in fs (take (l .left) (l .ring)) _ _ cut),
+    )
 
 pub clip-spec : {M : Type 1} → statement M
 clip-spec =

@@ -11,22 +11,22 @@ use Rattle.clipping.proofs.cut.Statement.{statement}
 use Rattle.clipping.proofs.cut.Tie as tie
 
 forget-requires : tie.Need-forget-requires
-forget-requires c κs = (c .before .before .before .before .before .before .pre .0, c .before .before .before .before .before .before .pre .1 .0)
+forget-requires c κs = rw (c .before .before .before .before .before .pre .1 .0) (c .before .before .before .before .before .pre .0)
 
 corners-at-requires : tie.Need-corners-at-requires
-corners-at-requires c κs = c .before .before .before .before .before .before .before .before .before .before .pre .0
+corners-at-requires c κs = c .before .before .before .before .before .before .before .before .before .pre .0
 
 remove-requires : tie.Need-remove-requires
-remove-requires c κs = c .before .before .before .before .before .before .before .before .before .before .before .before .before .before .before .before .pre .0
+remove-requires c κs = c .before .before .before .before .before .before .before .before .before .before .before .before .before .before .before .pre .0
 
 add-result : tie.Need-add-result
-add-result c = record { fits = c .before .before .before .before .before .before .before .before .before .before .before .before .before .before .before .before .before .before .before .before .before .before .before .before .pre .1 .1 }
+add-result c = record { fits = c .before .before .before .before .before .before .before .before .before .before .before .before .before .before .before .before .before .before .before .before .before .before .before .pre .1 .1 }
 
 same-length : tie.Need-same-length
 same-length c = c .before .before .before .before .before .before .before .remove .kept .0
 
 same-length-2 : tie.Need-same-length-2
-same-length-2 c = c .before .before .before .before .before .before .before .before .before .before .before .before .before .before .before .before .before .forget .kept .1 .0
+same-length-2 c = c .before .before .before .before .before .before .before .before .before .before .before .before .before .before .before .before .before .forget .kept .0
 
 same-length-3 : tie.Need-same-length-3
 same-length-3 c = c .before .before .before .before .before .before .before .before .before .before .before .put-entry .kept .0
@@ -44,7 +44,7 @@ same-length-5 : tie.Need-same-length-5
 same-length-5 c = c .before .before .before .remove .kept .0
 
 same-length-6 : tie.Need-same-length-6
-same-length-6 c = c .before .before .before .before .before .before .before .before .before .before .before .before .before .forget .kept .1 .0
+same-length-6 c = c .before .before .before .before .before .before .before .before .before .before .before .before .before .forget .kept .0
 
 same-length-7 : tie.Need-same-length-7
 same-length-7 c = c .before .before .before .before .before .before .before .put-entry .kept .0
@@ -53,7 +53,7 @@ returns-2 : tie.Need-returns-2
 unfolding triangleNumbers join earsOf
 returns-2 c =
     let other = ne-eqb _ _ (c .if1 .left) in
-    (record { removed = c .before .before .before .remove .ensures; written = rw (c .before .before .before .before .before .before .before .before .before .corners-at .ensures) at (c .before .before .before .before .before .before .before .put-entry .ensures); ears = rw other refl; offered = rw other (sym (add-zero (c .before .before .before .before .before .before .before .before .before .before .before .before .before .before .before .before .before .before .before .before .args .count))) }, c .before .before .before .before .before .before .before .before .before .before .before .before .before .forget .ensures)
+    (record { removed = c .before .before .before .remove .ensures; written = rw (c .before .before .before .before .before .before .before .before .before .corners-at .ensures) at (c .before .before .before .before .before .before .before .put-entry .ensures); ears = rw other refl; offered = rw other (sym (add-zero (c .before .before .before .before .before .before .before .before .before .before .before .before .before .before .before .before .before .before .before .args .count))) }, c .before .before .before .before .before .before .before .before .before .before .before .before .before .forget .ensures)
 
 pub cut-spec : {M : Type 1} → statement M
 cut-spec =

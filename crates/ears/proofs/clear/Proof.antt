@@ -1,6 +1,5 @@
 -- `ears::clear` meets its contract. Assumes nothing.
 use mathlib.Core.Path.{refl}
-use Prim.Native.Nat.{_-_}
 use borrow.Author.Needs.{needs}
 use Rattle.ears.proofs.clear.Statement.{statement}
 use Rattle.ears.proofs.clear.Tie as tie

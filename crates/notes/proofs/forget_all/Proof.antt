@@ -4,12 +4,11 @@ use Prim.Native.Nat.{_≤_, _-_}
 use native.Mathlib.Omega.{arith}
 use lib.ListN.{length}
 use Rattle.notes.proofs.NoteLaws.{Sweep, sweep-start, sweep-again, sweep-blank}
-use Rattle.notes.specs.Notes.{unknown}
 use Rattle.notes.proofs.forget_all.Statement.{statement}
 use Rattle.notes.proofs.forget_all.Tie as tie
 
 abbrev Inv-loop : tie.InvT-loop
-Inv-loop why₀ k₀ why k = Sweep (λ w. unknown) why₀ why k × (k ≤ length why₀)
+Inv-loop why₀ k₀ why k = Sweep (λ q. 0) why₀ why k × (k ≤ length why₀)
 
 abbrev μ-loop : tie.MeasureT-loop
 μ-loop why₀ k₀ why k = length why₀ - k

@@ -1,0 +1,1 @@
+// How many tests ear clipping makes, bounded on the definitions: see specs/ and proofs/.
