@@ -1,0 +1,56 @@
+// What the lines of a quote but the objects' are written from, and the account, by Build and
+// Validate.
+ghost use mathlib.Core.Path.{_≡_};
+ghost use Prim.Native.Nat.{_≤_};
+ghost use lib.ListN.{length};
+ghost use Rattle.quote_summary.specs.Summaries.{summaryOf, Summed};
+use answers::Answer;
+use build_and_validate::build_and_validate;
+use quote_lines::is_ok;
+use validation::Validation;
+
+pub struct Summary {
+    pub refusal: u32,
+    pub objects: usize,
+    pub vertices: u32,
+    pub indices: u32,
+    pub spans: u32,
+    pub ok: bool,
+}
+
+fn summary_of(a: Answer, v: Validation) -> Summary
+    ensures { λ r. ⌜ r ≡ summaryOf a v ⌝ }
+{
+    Summary {
+        refusal: a.refusal,
+        objects: (a.account / 4) as usize,
+        vertices: a.vertices / 3,
+        indices: a.indices,
+        spans: a.spans / 5,
+        ok: is_ok(v),
+    }
+}
+
+// Build and Validate, with working buffers of `roomFor 4096` numbers.
+pub fn sum_up(s: &[u8], account: &mut [u32; 1488]) -> Summary
+    requires { ⌜ length (now s) ≤ 4096 ⌝ }
+    ensures { λ r. ⌜ Summed (now (s .entry)) r (now (account .exit)) ⌝ }
+{
+    let mut vertices = [0.0f32; 24576];
+    let mut normals = [0.0f32; 24576];
+    let mut indices = [0u32; 36864];
+    let mut spans = [0u32; 1860];
+    let mut log = [0u32; 32768];
+    let r = build_and_validate(
+        s,
+        &mut vertices,
+        &mut normals,
+        &mut indices,
+        &mut spans,
+        account,
+        &mut log,
+    );
+    let answer = r.answer;
+    let validation = r.validation;
+    summary_of(answer.numbers(), validation)
+}

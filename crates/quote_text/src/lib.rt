@@ -1,0 +1,1 @@
+// What the quote program prints, document 01, section 8: definitions and proofs only.
