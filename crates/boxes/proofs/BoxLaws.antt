@@ -1,11 +1,12 @@
--- The faces of a box: their points and triangles. Assumes nothing.
-use mathlib.Core.Path.{_≡_, refl}
-use mathlib.Core.List.{[], _∷_, _++_}
-use Prim.Native.Nat.{ℕ, zero, suc, _+_, _-_, _*_, _<_, zero-le}
-use native.Mathlib.Numerals.{add-one}
+-- The faces of a box: their points and triangles, the room that they leave, and the whole drawn face by face. Assumes nothing.
+use mathlib.Core.Path.{_≡_}
+use mathlib.Core.Bool.{true, false}
+use mathlib.Core.List.{List, [], _∷_, _++_, append-nil}
+use Prim.Native.Nat.{ℕ, _+_, zero-le}
 use native.Mathlib.Omega.{arith}
+use lib.Dec.{lit≤}
 use lib.Ieee.{Float, eq}
-use Rattle.lists.specs.Loops.{list, sumOf}
+use Rattle.lists.specs.Loops.{list, join, sumOf}
 use Rattle.float.specs.Number.{zerof, onef}
 use Rattle.coords.specs.declared.Point.{Point}
 use Rattle.vectors.specs.declared.Vector.{Vector}
@@ -14,11 +15,11 @@ use Rattle.object.specs.declared.Orientation.{Orientation}
 use Rattle.object.specs.Object.{frame}
 use Rattle.face.specs.Faces.{fan, quad}
 use Rattle.face.specs.Drawing.{Drawing, Drew, Room}
-use Rattle.face.proofs.Draws.{then, drew-none, room-less}
-use Rattle.shapes.specs.Shapes.{Axis, onAxis, alongZ, boxFace, boxSides}
+use Rattle.face.specs.declared.Tally.{Tally}
+use Rattle.shapes.specs.Shapes.{Axis, onAxis, alongX, alongY, alongZ, boxFace}
+use Rattle.shapes.specs.Stages.{PartRun, sideStages, boxStages, DrewStages}
 use Rattle.shapes.proofs.Rooms.{Sized, sized-append, sized-cond, room-left}
-use Rattle.boxes.specs.declared.Placed.{Placed}
-use Rattle.boxes.specs.Axes.{axisNo, depthNo, sidesNo, boxTo}
+use Rattle.shapes.proofs.Stages.{stages-none, stages-first, stages-empty, stages-then}
 
 none-sized : (v k : ℕ) → Sized [] v k
 unfolding sumOf
@@ -33,42 +34,33 @@ module _ (o : Point) (t : Orientation) (l w h : Float) (axis : Axis) where
   unfolding boxFace
   box-face-sized side out part = quad-sized part _ _ _ _ out
 
-  pub box-sides-sized : (depth : Float) (part : ℕ) → Sized (boxSides o t l w h axis depth part) 8 4
-  unfolding boxSides
+  pub box-sides-sized : (depth : Float) (part : ℕ) → Sized (join PartRun.faces (sideStages o t l w h axis depth part)) 8 4
+  unfolding sideStages join
   box-sides-sized depth part =
       let out = onAxis axis onef zerof zerof (frame t) in
-      sized-append (box-face-sized onef out part) (sized-cond (eq depth zerof) (none-sized 4 2) (box-face-sized zerof (negate out) (part + 1)))
+      rw append-nil (sized-append (box-face-sized onef out part) (sized-cond (eq depth zerof) (none-sized 4 2) (box-face-sized zerof (negate out) (part + 1))))
 
--- a number that is neither 0 nor 1 is that of the last axis
-pub axis-last : (k : ℕ) → (k ≡ 0 → ⊥) → (k ≡ 1 → ⊥) → axisNo k ≡ alongZ
-unfolding axisNo
-axis-last zero h g = absurd (h refl)
-axis-last (suc zero) h g = absurd (g refl)
-axis-last (suc (suc k)) h g = refl
+  -- one face drawn, or both
+  module _ (limit depth : Float) (part : ℕ) {before : ℕ} {d d₁ : Drawing} {out : Vector} (along : out ≡ onAxis axis onef zerof zerof (frame t)) (first : Drew limit (boxFace o t l w h axis onef out part ∷ []) before d d₁) where
+    pub one-side : eq depth zerof ≡ true → DrewStages limit (sideStages o t l w h axis depth part) before d d₁ (d₁ .tally ∷ d₁ .tally ∷ [])
+    unfolding sideStages
+    one-side e = rw (e, ← along) (stages-first limit part first (stages-empty limit (part + 1) (stages-none limit)))
 
-pub depth-last : (b : Placed) (k : ℕ) → (k ≡ 0 → ⊥) → (k ≡ 1 → ⊥) → depthNo b k ≡ b .height
-unfolding depthNo
-depth-last b zero h g = absurd (h refl)
-depth-last b (suc zero) h g = absurd (g refl)
-depth-last b (suc (suc k)) h g = refl
+    pub both-sides : {d₂ : Drawing} → eq depth zerof ≡ false → Drew limit (boxFace o t l w h axis zerof (negate out) (part + 1) ∷ []) before d₁ d₂
+        → DrewStages limit (sideStages o t l w h axis depth part) before d d₂ (d₁ .tally ∷ d₂ .tally ∷ [])
+    unfolding sideStages
+    both-sides e second = rw (e, ← along) (stages-first limit part first (stages-first limit (part + 1) second (stages-none limit)))
 
--- the faces across the first k axes are drawn
-pub record Drawn (limit : Float) (b : Placed) (before : ℕ) (d d′ : Drawing) (k : ℕ) : Type 0 where
-  pub drew : Drew limit (boxTo b k) before d d′
-  pub room : Room before (d′ .tally) (8 * (3 - k)) (4 * (3 - k))
+-- all axes, and the room that the first of them leave
+module _ (o : Point) (t : Orientation) (l w h limit : Float) {before : ℕ} {d d₁ : Drawing} {ts : List Tally}
+    (xs : DrewStages limit (sideStages o t l w h alongX l 11) before d d₁ ts) where
+  pub second-room : Room before (d .tally) 24 12 → Room before (d₁ .tally) 16 8
+  second-room room = room-left limit room (xs .drew) (box-sides-sized o t l w h alongX l 11) (lit≤ tt) (lit≤ tt)
 
-module _ (limit : Float) (b : Placed) (before : ℕ) (d : Drawing) where
-  pub drawn-start : Room before (d .tally) 24 12 → Drawn limit b before d d 0
-  unfolding boxTo
-  drawn-start r = record { drew = drew-none limit before d; room = r }
+  module _ {d₂ : Drawing} {us : List Tally} (ys : DrewStages limit (sideStages o t l w h alongY w 13) before d₁ d₂ us) where
+    pub third-room : Room before (d .tally) 24 12 → Room before (d₂ .tally) 8 4
+    third-room room = room-left limit (second-room room) (ys .drew) (box-sides-sized o t l w h alongY w 13) (lit≤ tt) (lit≤ tt)
 
-  module _ {d′ : Drawing} {k : ℕ} (t : Drawn limit b before d d′ k) (h : k < 3) where
-    pub drawn-room : Room before (d′ .tally) 8 4
-    drawn-room = room-less (t .room) (omega arith) (omega arith)
-
-    pub drawn-next : {d″ : Drawing} → Drew limit (sidesNo b k) before d′ d″ → Drawn limit b before d d″ (k + 1)
-    unfolding boxTo sidesNo
-    drawn-next s = record {
-      drew = rw (add-one k) (then limit (t .drew) s);
-      room = room-left limit (t .room) s (box-sides-sized (b .origin) (b .turn) (b .length) (b .width) (b .height) (axisNo k) (depthNo b k) (11 + 2 * k)) (omega arith) (omega arith);
-    }
+    pub box-drawn : {d₃ : Drawing} {ws : List Tally} → DrewStages limit (sideStages o t l w h alongZ h 15) before d₂ d₃ ws → DrewStages limit (boxStages o t l w h) before d d₃ (ts ++ us ++ ws)
+    unfolding boxStages
+    box-drawn zs = stages-then limit (stages-then limit xs ys) zs

@@ -1,11 +1,13 @@
 // The faces of a box: `cuboid` of object_mesh.rs.
 ghost use mathlib.Core.Path.{_≡_};
+ghost use mathlib.Core.List.{[], _∷_};
 ghost use Prim.Native.Nat.{ℕ};
 ghost use Rattle.float.specs.Number.{zerof, onef};
 ghost use Rattle.object.specs.Object.{frame};
-ghost use Rattle.face.specs.Drawing.{drawing, Drew, Room};
-ghost use Rattle.shapes.specs.Shapes.{onAxis, boxPoint, boxFace, boxSides, box};
-ghost use Rattle.boxes.specs.Axes.{axisOf, axisNo, depthNo};
+ghost use Rattle.face.specs.Drawing.{drawing, Room};
+ghost use Rattle.shapes.specs.Shapes.{onAxis, boxPoint, boxFace};
+ghost use Rattle.shapes.specs.Stages.{sideStages, boxStages, DrewStages, lastOf};
+ghost use Rattle.boxes.specs.Axes.{axisOf};
 ghost use Rattle.boxes.specs.Quads.{quadOf};
 use coords::Point;
 use face::Tally;
@@ -91,6 +93,12 @@ fn box_face(b: Placed, axis: Axis, side: f32, out: Vector) -> Quad
     )
 }
 
+// What was written and counted after the face along an axis, and after the one against it.
+struct Sides {
+    along: Tally,
+    against: Tally,
+}
+
 // The face along the axis, then the one against it unless the box has no depth here and it lies on
 // the first.
 fn box_sides(
@@ -103,46 +111,39 @@ fn box_sides(
     vs: &mut [f32],
     ns: &mut [f32],
     is: &mut [u32],
-) -> Tally
+) -> Sides
     requires { ⌜ Room before t 8 4 ⌝ }
-    ensures { λ r. ⌜ ((part : ℕ) → Drew limit (boxSides (b .origin) (b .turn) (b .length) (b .width) (b .height) (axisOf axis) depth part) before (drawing t (now (vs .entry)) (now (ns .entry)) (now (is .entry))) (drawing r (now (vs .exit)) (now (ns .exit)) (now (is .exit)))) ⌝ }
+    ensures { λ r. ⌜ ((part : ℕ) → DrewStages limit (sideStages (b .origin) (b .turn) (b .length) (b .width) (b .height) (axisOf axis) depth part) before (drawing t (now (vs .entry)) (now (ns .entry)) (now (is .entry))) (drawing (r .against) (now (vs .exit)) (now (ns .exit)) (now (is .exit))) (r .along ∷ r .against ∷ [])) ⌝ }
 {
     let out = direction(b.turn, axis);
     let p = box_face(b, axis, 1.0, out);
-    let u = faces::quad(p.a, p.b, p.c, p.d, p.out, limit, before, t, vs, ns, is);
+    let along = faces::quad(p.a, p.b, p.c, p.d, p.out, limit, before, t, vs, ns, is);
     if depth == 0.0 {
-        return u;
+        return Sides {
+            along,
+            against: along,
+        };
     }
     let q = box_face(b, axis, 0.0, out.neg());
-    faces::quad(q.a, q.b, q.c, q.d, q.out, limit, before, u, vs, ns, is)
+    let against = faces::quad(q.a, q.b, q.c, q.d, q.out, limit, before, along, vs, ns, is);
+    Sides { along, against }
 }
 
-// The axes by number, and how deep a box is along them.
-fn axis_at(k: u32) -> Axis
-    ensures { λ r. ⌜ axisOf r ≡ axisNo k ⌝ }
+// The counts across the three axes in order.
+fn six(x: Sides, y: Sides, z: Sides) -> [Tally; 6]
+    ensures { λ r. ⌜ r ≡ x .along ∷ x .against ∷ y .along ∷ y .against ∷ z .along ∷ z .against ∷ [] ⌝ }
 {
-    if k == 0 {
-        return Axis::X;
-    }
-    if k == 1 {
-        return Axis::Y;
-    }
-    Axis::Z
+    let a = x.along;
+    let b = x.against;
+    let c = y.along;
+    let d = y.against;
+    let e = z.along;
+    let f = z.against;
+    [a, b, c, d, e, f]
 }
 
-fn depth_at(b: Placed, k: u32) -> f32
-    ensures { λ r. ⌜ r ≡ depthNo b k ⌝ }
-{
-    if k == 0 {
-        return b.length;
-    }
-    if k == 1 {
-        return b.width;
-    }
-    b.height
-}
-
-// A box centred on the origin in plan and rising from it.
+// A box centred on the origin in plan and rising from it: what was written and counted after each of
+// its six faces.
 pub fn cuboid(
     origin: Point,
     turn: Orientation,
@@ -155,9 +156,9 @@ pub fn cuboid(
     vs: &mut [f32],
     ns: &mut [f32],
     is: &mut [u32],
-) -> Tally
+) -> [Tally; 6]
     requires { ⌜ Room before t 24 12 ⌝ }
-    ensures { λ r. ⌜ Drew limit (box origin turn length width height) before (drawing t (now (vs .entry)) (now (ns .entry)) (now (is .entry))) (drawing r (now (vs .exit)) (now (ns .exit)) (now (is .exit))) ⌝ }
+    ensures { λ r. ⌜ DrewStages limit (boxStages origin turn length width height) before (drawing t (now (vs .entry)) (now (ns .entry)) (now (is .entry))) (drawing (lastOf r) (now (vs .exit)) (now (ns .exit)) (now (is .exit))) r ⌝ }
 {
     let b = Placed {
         origin,
@@ -166,11 +167,8 @@ pub fn cuboid(
         width,
         height,
     };
-    let mut u = t;
-    let mut k: u32 = 0;
-    while k < 3 {
-        u = box_sides(b, axis_at(k), depth_at(b, k), limit, before, u, vs, ns, is);
-        k = k + 1;
-    }
-    u
+    let x = box_sides(b, Axis::X, length, limit, before, t, vs, ns, is);
+    let y = box_sides(b, Axis::Y, width, limit, before, x.against, vs, ns, is);
+    let z = box_sides(b, Axis::Z, height, limit, before, y.against, vs, ns, is);
+    six(x, y, z)
 }

@@ -50,7 +50,8 @@ fn object_at(
         &mut is[k..],
         &mut log[e..],
     );
-    let t = d.tally;
+    let after = d.after;
+    let t = after[5];
     put_span(h.id, p, t, spans);
     put_account(p.objects, d, account);
     advance(p, h.size, d)

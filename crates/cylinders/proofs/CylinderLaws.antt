@@ -19,8 +19,10 @@ use Rattle.object.specs.declared.Orientation.{Orientation}
 use Rattle.object.specs.Object.{frame}
 use Rattle.face.specs.Faces.{fan, quad}
 use Rattle.face.specs.Drawing.{Drawing, Drew, Room}
-use Rattle.face.proofs.Draws.{then}
-use Rattle.shapes.specs.Shapes.{ringAt, cylinderSide, endFace, cylinderFaces, cylinder}
+use Rattle.face.specs.declared.Tally.{Tally}
+use Rattle.shapes.specs.Shapes.{ringAt, cylinderSide, endFace}
+use Rattle.shapes.specs.Stages.{PartRun, cylinderStages, DrewStages}
+use Rattle.shapes.proofs.Stages.{stages-none, stages-first, stages-empty}
 use Rattle.shapes.proofs.Rooms.{Sized, sized-list, room-left}
 
 pub sides-sized : (t : Orientation) (bottom top : List Point) (n : ℕ) → Sized (list (cylinderSide t bottom top) n 0) (4 * n) (2 * n)
@@ -53,11 +55,19 @@ module _ (limit : Float) (t : Orientation) (bottom top : List Point) {before : �
 module _ (o : Point) (t : Orientation) (r h : Float) {limit : Float} {before : ℕ} {rings : List (List Point)} {up : Vector} {d d₁ d₂ : Drawing}
     (both : rings ≡ ringAt o t r zerof ∷ ringAt o t r h ∷ []) (upward : up ≡ frame t zerof zerof onef)
     (sides : Drew limit (list (cylinderSide t (getD rings 0 []) (getD rings 1 [])) 16 0) before d d₁) (top : Drew limit (endFace (getD rings 1 []) up 2 ∷ []) before d₁ d₂) where
-  pub flat-cylinder : lt zerof h ≡ false → Drew limit (cylinder o t r h) before d d₂
-  unfolding cylinder cylinderFaces
-  flat-cylinder e = rw e (then limit (rw both at sides) (rw (both, upward) at top))
+  abbrev stages : List PartRun
+  stages = cylinderStages t (ringAt o t r zerof) (ringAt o t r h) h
+
+  abbrev counts : Tally → List Tally
+  counts x = d₁ .tally ∷ d₂ .tally ∷ x ∷ x ∷ x ∷ x ∷ []
+
+  pub flat-cylinder : lt zerof h ≡ false → DrewStages limit stages before d d₂ (counts (d₂ .tally))
+  unfolding cylinderStages
+  flat-cylinder e = rw e (stages-first limit 1 (rw both at sides) (stages-first limit 2 (rw (both, upward) at top) (stages-empty limit 3 (stages-empty limit 4 (stages-empty limit 5 (stages-empty limit 6 (stages-none limit)))))))
 
   pub whole-cylinder : {down : Vector} {d₃ : Drawing} → lt zerof h ≡ true → down ≡ negate up → Drew limit (endFace (getD rings 0 []) down 3 ∷ []) before d₂ d₃
-      → Drew limit (cylinder o t r h) before d d₃
-  unfolding cylinder cylinderFaces
-  whole-cylinder e turned floor = rw e (then limit (rw both at sides) (then limit (rw (both, upward) at top) (rw (both, turned, upward) at floor)))
+      → DrewStages limit stages before d d₃ (counts (d₃ .tally))
+  unfolding cylinderStages
+  whole-cylinder e turned floor =
+      rw e
+      (stages-first limit 1 (rw both at sides) (stages-first limit 2 (rw (both, upward) at top) (stages-first limit 3 (rw (both, turned, upward) at floor) (stages-empty limit 4 (stages-empty limit 5 (stages-empty limit 6 (stages-none limit)))))))

@@ -8,7 +8,8 @@ ghost use Rattle.float.specs.Number.{zerof};
 ghost use Rattle.circle.specs.Circle.{sideAngle, sine, cosine};
 ghost use Rattle.object.specs.Object.{frame};
 ghost use Rattle.face.specs.Drawing.{drawing, Drew, Room};
-ghost use Rattle.shapes.specs.Shapes.{ringPoint, ringAt, cylinderSide, cylinder};
+ghost use Rattle.shapes.specs.Shapes.{ringPoint, ringAt, cylinderSide};
+ghost use Rattle.shapes.specs.Stages.{cylinderStages, DrewStages, lastOf};
 use coords::Point;
 use ends::end;
 use face::Tally;
@@ -85,7 +86,8 @@ fn cylinder_sides(
     u
 }
 
-// An upright cylinder centred on the origin and rising from it; without a floor where it has no height.
+// An upright cylinder centred on the origin and rising from it; without a floor where it has no
+// height. What was written and counted after its sides, the end at its height and the other end.
 pub fn cylinder(
     origin: Point,
     turn: Orientation,
@@ -97,16 +99,17 @@ pub fn cylinder(
     vs: &mut [f32],
     ns: &mut [f32],
     is: &mut [u32],
-) -> Tally
+) -> [Tally; 6]
     requires { ⌜ Room before t 96 60 ⌝ }
-    ensures { λ r. ⌜ Drew limit (cylinder origin turn radius height) before (drawing t (now (vs .entry)) (now (ns .entry)) (now (is .entry))) (drawing r (now (vs .exit)) (now (ns .exit)) (now (is .exit))) ⌝ }
+    ensures { λ r. ⌜ DrewStages limit (cylinderStages turn (ringAt origin turn radius zerof) (ringAt origin turn radius height) height) before (drawing t (now (vs .entry)) (now (ns .entry)) (now (is .entry))) (drawing (lastOf r) (now (vs .exit)) (now (ns .exit)) (now (is .exit))) r ⌝ }
 {
     let rings = rings_of(origin, turn, radius, height);
     let up = frames::frame(turn, 0.0, 0.0, 1.0);
     let u = cylinder_sides(rings, turn, limit, before, t, vs, ns, is);
     let w = end(rings[1], up, limit, before, u, vs, ns, is);
     if height > 0.0 {
-        return end(rings[0], up.neg(), limit, before, w, vs, ns, is);
+        let x = end(rings[0], up.neg(), limit, before, w, vs, ns, is);
+        return [u, w, x, x, x, x];
     }
-    w
+    [u, w, w, w, w, w]
 }

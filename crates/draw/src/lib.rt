@@ -8,6 +8,7 @@ ghost use Rattle.object.specs.Object.{solid, sweep, roundSweep};
 ghost use Rattle.fields.specs.Fields.{pointAt, orientationAt, sectionsAt};
 ghost use Rattle.scene.specs.Headers.{shapeOf};
 ghost use Rattle.shapes.specs.Drawn.{CanDraw, DrewObject};
+ghost use Rattle.shapes.specs.Stages.{firstOf};
 use face::Tally;
 use object::Extent;
 use outlines::outline;
@@ -37,18 +38,31 @@ fn draw_sections(
     ensures { λ r. ⌜ ((log : List ℕ) → DrewObject limit (cond round (roundSweep (sectionsAt (now (s .entry)) n at)) (sweep (sectionsAt (now (s .entry)) n at))) before (now (vs .entry)) (now (ns .entry)) (now (is .entry)) log r (now (vs .exit)) (now (ns .exit)) (now (is .exit)) log) ⌝ }
 {
     if round {
-        let tally = round_sweep(s, at, n, limit, before, NOTHING, vs, ns, is);
+        let after = round_sweep(s, at, n, limit, before, NOTHING, vs, ns, is);
         return Drawn {
-            tally,
+            first: 1,
+            after,
             offered: round_sweep_price(n),
             entries: 0,
         };
     }
-    let tally = sweep(s, at, n, limit, before, NOTHING, vs, ns, is);
+    let after = sweep(s, at, n, limit, before, NOTHING, vs, ns, is);
     Drawn {
-        tally,
+        first: 1,
+        after,
         offered: sweep_price(s, at, n),
         entries: 0,
+    }
+}
+
+// The part of a solid's first stage: a box's faces are numbered from 11 on.
+fn first_part(extent: Extent) -> u32
+    ensures { λ r. ⌜ r ≡ firstOf extent ⌝ }
+{
+    match extent {
+        Extent::Box(_, _, _) => 11,
+        Extent::Cylinder(_, _) => 1,
+        Extent::Unsized => 1,
     }
 }
 
@@ -71,9 +85,11 @@ pub fn draw(
     match body {
         Body::Solid(extent) => {
             let offered = solid_price(extent);
-            let tally = solid(s, i, extent, limit, before, NOTHING, vs, ns, is);
+            let first = first_part(extent);
+            let after = solid(s, i, extent, limit, before, NOTHING, vs, ns, is);
             Drawn {
-                tally,
+                first,
+                after,
                 offered,
                 entries: 0,
             }

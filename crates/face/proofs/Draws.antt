@@ -85,7 +85,7 @@ module _ (limit : Float) where
       let next = first + length (p .vertices) in
       omega (arith, length-append (p .vertices) (writeFaces limit next fs .vertices), kept-most first f (keptOf limit f), vertices-most next fs)
 
-  write-append : (first : ℕ) (fs gs : List Face)
+  pub write-append : (first : ℕ) (fs gs : List Face)
       → writeFaces limit first (fs ++ gs) ≡ behind (writeFaces limit first fs) (writeFaces limit (first + length (writeFaces limit first fs .vertices)) gs)
   unfolding writeFaces behind nothing
   write-append first [] gs = rw add-zero

@@ -2,6 +2,7 @@
 // the bases.
 ghost use mathlib.Core.Path.{_≡_};
 ghost use mathlib.Core.Bool.{cond};
+ghost use mathlib.Core.List.{[], _∷_};
 ghost use Prim.Native.Nat.{_+_, _*_, _<_, _≤_, _/_};
 ghost use lib.ListN.{length};
 ghost use lib.Seq.{sets};
@@ -10,15 +11,15 @@ ghost use Rattle.coords.specs.Buffers.{vertexNumbers};
 ghost use Rattle.fields.specs.Fields.{cornersAt};
 ghost use Rattle.face.specs.Faces.{TriangleLow};
 ghost use Rattle.triangles.specs.Triangles.{trianglesIn};
-ghost use Rattle.face.specs.Drawing.{drawing, Drew, Room};
+ghost use Rattle.face.specs.Drawing.{drawing, Room};
 ghost use Rattle.lid.specs.Written.{logWith};
-ghost use Rattle.shapes.specs.Shapes.{hasHeight, lidFaces};
+ghost use Rattle.shapes.specs.Shapes.{hasHeight};
+ghost use Rattle.shapes.specs.Stages.{lidStages, DrewStages};
 ghost use Rattle.corners.specs.Outlines.{pointsAt, CornersIn, PointsIn, lidAt, Measured};
 use corners::OutlineAt;
 use face::Tally;
 use geometry::point_at;
 use lid_cuts::cut;
-use shapes::Drawn;
 use vectors::Vector;
 
 // The numbers of n points at `at`.
@@ -34,6 +35,20 @@ fn put_points(s: &[u8], at: usize, n: u32, points: &mut [f32])
     }
 }
 
+// What was written and counted after the lid, and after the floor.
+struct Lids {
+    lid: Tally,
+    floor: Tally,
+}
+
+// The same, with the outline's price and the entries of its log.
+pub struct Capped {
+    pub lid: Tally,
+    pub floor: Tally,
+    pub offered: u32,
+    pub entries: u32,
+}
+
 // The lid over an outline's corners and, where they have height, the floor under them.
 fn lid_faces(
     s: &[u8],
@@ -46,20 +61,31 @@ fn lid_faces(
     vs: &mut [f32],
     ns: &mut [f32],
     is: &mut [u32],
-) -> Tally
+) -> Lids
     requires { ⌜ CornersIn (now s) (o .at) (o .n) × (3 * o .n ≤ length (now points)) × (o .high ≡ hasHeight (cornersAt (now s) (o .n) (o .at))) ⌝ }
     requires { ⌜ Room before t (2 * o .n) (2 * (length (now triangles) / 3)) × Each (TriangleLow (o .n)) (trianglesIn (now triangles)) ⌝ }
-    ensures { λ r. ⌜ Drew limit (lidFaces (cornersAt (now (s .entry)) (o .n) (o .at)) (o .lid) (trianglesIn (now (triangles .entry)))) before (drawing t (now (vs .entry)) (now (ns .entry)) (now (is .entry))) (drawing r (now (vs .exit)) (now (ns .exit)) (now (is .exit))) ⌝ }
+    ensures { λ r. ⌜ DrewStages limit (lidStages (cornersAt (now (s .entry)) (o .n) (o .at)) (o .lid) (trianglesIn (now (triangles .entry)))) before (drawing t (now (vs .entry)) (now (ns .entry)) (now (is .entry))) (drawing (r .floor) (now (vs .exit)) (now (ns .exit)) (now (is .exit))) (r .lid ∷ r .floor ∷ []) ⌝ }
 {
     let m = 3 * (o.n as usize);
     put_points(s, o.at + 12, o.n, points);
-    let t = faces::face(&points[..m], triangles, o.lid, limit, before, t, vs, ns, is);
+    let lid = faces::face(&points[..m], triangles, o.lid, limit, before, t, vs, ns, is);
     if o.high {
         put_points(s, o.at, o.n, points);
         let down = o.lid.neg();
-        return faces::face(&points[..m], triangles, down, limit, before, t, vs, ns, is);
+        let floor = faces::face(
+            &points[..m],
+            triangles,
+            down,
+            limit,
+            before,
+            lid,
+            vs,
+            ns,
+            is,
+        );
+        return Lids { lid, floor };
     }
-    t
+    Lids { lid, floor: lid }
 }
 
 // The price of a closed outline of n corners, whose lid has some triangles.
@@ -87,17 +113,20 @@ fn cap_in(
     ns: &mut [f32],
     is: &mut [u32],
     log: &mut [u32],
-) -> Drawn
+) -> Capped
     requires { ⌜ Measured (now s) o × (o .high ≡ hasHeight (cornersAt (now s) (o .n) (o .at))) × Room before t 1024 1224 ⌝ }
     requires { ⌜ (3 * o .n ≤ length (now room)) × (3 * length (lidAt (now s) (o .i) (o .outer) (o .holes) .triangles) ≤ length (now ts)) ⌝ }
-    ensures { λ r. ⌜ Drew limit (lidFaces (cornersAt (now (s .entry)) (o .n) (o .at)) (o .lid) (lidAt (now (s .entry)) (o .i) (o .outer) (o .holes) .triangles)) before (drawing t (now (vs .entry)) (now (ns .entry)) (now (is .entry))) (drawing (r .tally) (now (vs .exit)) (now (ns .exit)) (now (is .exit))) ⌝ }
+    ensures { λ r. ⌜ DrewStages limit (lidStages (cornersAt (now (s .entry)) (o .n) (o .at)) (o .lid) (lidAt (now (s .entry)) (o .i) (o .outer) (o .holes) .triangles)) before (drawing t (now (vs .entry)) (now (ns .entry)) (now (is .entry))) (drawing (r .floor) (now (vs .exit)) (now (ns .exit)) (now (is .exit))) (r .lid ∷ r .floor ∷ []) ⌝ }
     ensures { λ r. ⌜ (r .offered ≡ 2 * o .n + length (lidAt (now (s .entry)) (o .i) (o .outer) (o .holes) .triangles) + cond (o .high) (length (lidAt (now (s .entry)) (o .i) (o .outer) (o .holes) .triangles)) 0) × (r .entries ≡ length (lidAt (now (s .entry)) (o .i) (o .outer) (o .holes) .log)) × (now (log .exit) ≡ logWith (now (log .entry)) 0 (lidAt (now (s .entry)) (o .i) (o .outer) (o .holes) .log)) ⌝ }
 {
     let d = cut(s, o, room, log, ts);
     let c = 3 * (d.triangles as usize);
-    let tally = lid_faces(s, o, &ts[..c], room, limit, before, t, vs, ns, is);
-    Drawn {
-        tally,
+    let l = lid_faces(s, o, &ts[..c], room, limit, before, t, vs, ns, is);
+    let lid = l.lid;
+    let floor = l.floor;
+    Capped {
+        lid,
+        floor,
         offered: closed_price(o.n, o.high, d.triangles),
         entries: d.entries,
     }
@@ -115,9 +144,9 @@ pub fn cap(
     ns: &mut [f32],
     is: &mut [u32],
     log: &mut [u32],
-) -> Drawn
+) -> Capped
     requires { ⌜ Measured (now s) o × (o .high ≡ hasHeight (cornersAt (now s) (o .n) (o .at))) × Room before t 1024 1224 ⌝ }
-    ensures { λ r. ⌜ Drew limit (lidFaces (cornersAt (now (s .entry)) (o .n) (o .at)) (o .lid) (lidAt (now (s .entry)) (o .i) (o .outer) (o .holes) .triangles)) before (drawing t (now (vs .entry)) (now (ns .entry)) (now (is .entry))) (drawing (r .tally) (now (vs .exit)) (now (ns .exit)) (now (is .exit))) ⌝ }
+    ensures { λ r. ⌜ DrewStages limit (lidStages (cornersAt (now (s .entry)) (o .n) (o .at)) (o .lid) (lidAt (now (s .entry)) (o .i) (o .outer) (o .holes) .triangles)) before (drawing t (now (vs .entry)) (now (ns .entry)) (now (is .entry))) (drawing (r .floor) (now (vs .exit)) (now (ns .exit)) (now (is .exit))) (r .lid ∷ r .floor ∷ []) ⌝ }
     ensures { λ r. ⌜ (r .offered ≡ 2 * o .n + length (lidAt (now (s .entry)) (o .i) (o .outer) (o .holes) .triangles) + cond (o .high) (length (lidAt (now (s .entry)) (o .i) (o .outer) (o .holes) .triangles)) 0) × (r .entries ≡ length (lidAt (now (s .entry)) (o .i) (o .outer) (o .holes) .log)) × (now (log .exit) ≡ logWith (now (log .entry)) 0 (lidAt (now (s .entry)) (o .i) (o .outer) (o .holes) .log)) ⌝ }
 {
     if (o.n as usize) + 3 * o.holes <= 32 {

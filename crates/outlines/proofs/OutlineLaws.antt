@@ -1,9 +1,9 @@
 -- The faces and the price of an outline from what its parts come to. Assumes nothing.
-use mathlib.Core.Path.{_≡_, refl, sym, ap, ap₂, subst, _∙_}
+use mathlib.Core.Path.{_≡_, refl, sym, ap, ap₂, subst, subst₂, _∙_}
 use mathlib.Core.Bool.{Bool, true, false, cond, true≢false, false≢true}
 use Prim.Native.Nat.{ℕ, _+_, _-_, _*_, _≤_}
 use native.Mathlib.Omega.{arith}
-use mathlib.Core.List.{List, [], _∷_, _++_, map, append-nil}
+use mathlib.Core.List.{List, [], _∷_, _++_, map}
 use lib.ListN.{length}
 use lib.Ieee.{Float}
 use Rattle.lists.specs.Loops.{join, sumOf}
@@ -14,16 +14,19 @@ use Rattle.object.specs.declared.Corner.{Corner}
 use Rattle.fields.specs.Fields.{cornersAt, countsAt, holesAt}
 use Rattle.scene.specs.declared.headers.Body.the-variants.{Outline}
 use Rattle.scene.proofs.Parts.{corners-length, holes-size, corners-count}
+use Rattle.face.specs.declared.Tally.{Tally}
 use Rattle.face.specs.Faces.{Face}
 use Rattle.face.specs.Drawing.{Drawing, tally, drawing, Drew, Room}
 use Rattle.face.proofs.Counts.{count}
-use Rattle.face.proofs.Draws.{drew-room, then}
+use Rattle.face.proofs.Draws.{drew-room}
 use Rattle.flattening.specs.Plane.{lidNormal, about}
 use Rattle.lid.specs.Lid.{Lid, lidPrice}
 use Rattle.lid.specs.Log.{logNumbers}
 use Rattle.lid.specs.Written.{logWith}
 use Rattle.lid.proofs.Facts.{total, lid-triangles}
-use Rattle.shapes.specs.Shapes.{walls, outerWalls, holeWalls, allCorners, flatOf, outlineLid, hasHeight, lidFaces, outlineFaces, facesOf, logOf}
+use Rattle.shapes.specs.Shapes.{walls, outerWalls, holeWalls, allCorners, flatOf, outlineLid, hasHeight, logOf}
+use Rattle.shapes.specs.Stages.{fourStages, lidFace, floorFaces, lidStages, outlineStages, stagesOf, DrewStages}
+use Rattle.shapes.proofs.Stages.{stages-walls, stages-lidded}
 use Rattle.shapes.specs.declared.Drawn.{Drawn}
 use Rattle.shapes.specs.Drawn.{CanDraw, DrewObject}
 use Rattle.shapes.specs.Price.{offered, outlinePrice}
@@ -52,6 +55,13 @@ outer-drew {limit} {before} {d = d} {d′ = d′} true s n at lid p q =
     subst (λ (fs : List Face). Drew limit fs before d d′) (ap₂ (walls (cornersAt s n at)) p (q ∙ sym (corners-length s n at)))
 outer-drew {limit} {before} {d = d} {d′ = d′} false s n at lid p q =
     subst (λ (fs : List Face). Drew limit fs before d d′) (ap₂ (walls (cornersAt s n at)) p (q ∙ ap (λ (k : ℕ). k - 1) (sym (corners-length s n at))))
+
+-- what is answered of an open outline, and of a closed one
+abbrev openDrawn : Tally → ℕ → Drawn
+openDrawn t price = record { first = 1; after = t ∷ t ∷ t ∷ t ∷ t ∷ t ∷ []; offered = price; entries = 0 }
+
+abbrev closedDrawn : Tally → Tally → Tally → ℕ → ℕ → Drawn
+closedDrawn t a b price entries = record { first = 1; after = t ∷ a ∷ b ∷ b ∷ b ∷ b ∷ []; offered = price; entries = entries }
 
 module _ (s : List ℕ) (i outer holes : ℕ) where
   abbrev pub outerCorners : List Corner
@@ -91,30 +101,32 @@ module _ (s : List ℕ) (i outer holes : ℕ) where
 
   -- an open outline, drawn
   module _ {limit : Float} {before : ℕ} {vs ns : List Float} {is : List ℕ} {lid : Vector} {n : ℕ} where
-    open-object : (closed : Bool) {ls : List ℕ} {r : Drawn} {vs′ ns′ : List Float} {is′ : List ℕ} → closed ≡ false → lid ≡ lidNormal outerCorners → n ≡ outer + holeCorners s i holes
-        → Drew limit (wallsOf closed lid) before (drawing (tally 0 0 0) vs ns is) (drawing (r .tally) vs′ ns′ is′) → r .offered ≡ 2 * (outer - 1) + 2 * (n - outer) → r .entries ≡ 0
-        → DrewObject limit (outlineShape s i closed outer holes) before vs ns is ls r vs′ ns′ is′ ls
-    unfolding facesOf outlineFaces offered outlinePrice logOf logNumbers join
-    open-object false {ls} {r} {vs′} {ns′} {is′} c l e drew price none = record {
-      drew = subst (λ (fs : List Face). Drew limit fs before (drawing (tally 0 0 0) vs ns is) (drawing (r .tally) vs′ ns′ is′))
-          (ap (wallsOf false) l ∙ sym (append-nil _)) drew;
-      offered = omega (arith, price, e, corners-length s outer (cornersOf i holes), corners-all);
-      entries = none;
+    open-object : (closed : Bool) {ls : List ℕ} {t : Tally} {price : ℕ} {vs′ ns′ : List Float} {is′ : List ℕ} → closed ≡ false → lid ≡ lidNormal outerCorners → n ≡ outer + holeCorners s i holes
+        → Drew limit (wallsOf closed lid) before (drawing (tally 0 0 0) vs ns is) (drawing t vs′ ns′ is′) → price ≡ 2 * (outer - 1) + 2 * (n - outer)
+        → DrewObject limit (outlineShape s i closed outer holes) before vs ns is ls (openDrawn t price) vs′ ns′ is′ ls
+    unfolding stagesOf outlineStages offered outlinePrice logOf logNumbers join
+    open-object false {ls} {t} {price} {vs′} {ns′} {is′} c l e drew priced = record {
+      first = refl;
+      drew = rw l at (stages-walls limit drew);
+      offered = omega (arith, priced, e, corners-length s outer (cornersOf i holes), corners-all);
+      entries = refl;
       log = refl;
     }
-    open-object true c l e drew price none = absurd (true≢false c)
+    open-object true c l e drew priced = absurd (true≢false c)
 
     -- a closed one, whose walls leave the drawing at d
-    closed-object : (closed : Bool) {high : Bool} {triangles : ℕ} {ls : List ℕ} {d : Drawing} {r : Drawn} {vs′ ns′ : List Float} {is′ ls′ : List ℕ} → closed ≡ true → lid ≡ lidNormal outerCorners
+    closed-object : (closed : Bool) {high : Bool} {triangles : ℕ} {ls : List ℕ} {d : Drawing} {a b : Tally} {price entries : ℕ} {vs′ ns′ : List Float} {is′ ls′ : List ℕ} → closed ≡ true → lid ≡ lidNormal outerCorners
         → n ≡ outer + holeCorners s i holes → high ≡ hasHeight (cornersAt s n (cornersOf i holes)) → Drew limit (wallsOf closed lid) before (drawing (tally 0 0 0) vs ns is) d
-        → Drew limit (lidFaces (cornersAt s n (cornersOf i holes)) lid (lidAt s i outer holes .triangles)) before d (drawing (r .tally) vs′ ns′ is′)
-        → triangles ≡ length (lidAt s i outer holes .triangles) → r .offered ≡ 2 * n + triangles + cond high triangles 0
-        → r .entries ≡ length (lidAt s i outer holes .log) → ls′ ≡ logWith ls 0 (lidAt s i outer holes .log)
-        → DrewObject limit (outlineShape s i closed outer holes) before vs ns is ls r vs′ ns′ is′ ls′
-    unfolding facesOf outlineFaces logOf
-    closed-object true {high} {triangles} {ls} {d} {r} {vs′} {ns′} {is′} c l e h sides lids k price entries log = record {
-      drew = subst (λ (fs : List Face). Drew limit fs before (drawing (tally 0 0 0) vs ns is) (drawing (r .tally) vs′ ns′ is′))
-          (ap₂ (λ (v : Vector) (cs : List Corner). wallsOf true v ++ lidFaces cs v (lidAt s i outer holes .triangles)) l (all e)) (then limit sides lids);
+        → DrewStages limit (lidStages (cornersAt s n (cornersOf i holes)) lid (lidAt s i outer holes .triangles)) before d (drawing b vs′ ns′ is′) (a ∷ b ∷ [])
+        → triangles ≡ length (lidAt s i outer holes .triangles) → price ≡ 2 * n + triangles + cond high triangles 0
+        → entries ≡ length (lidAt s i outer holes .log) → ls′ ≡ logWith ls 0 (lidAt s i outer holes .log)
+        → DrewObject limit (outlineShape s i closed outer holes) before vs ns is ls (closedDrawn (d .tally) a b price entries) vs′ ns′ is′ ls′
+    unfolding stagesOf outlineStages logOf
+    closed-object true {high} {triangles} {ls} {d} {a} {b} {vs′ = vs′} {ns′} {is′} c l e h sides lids k price entries log = record {
+      first = refl;
+      drew =
+          subst₂ (λ (v : Vector) (cs : List Corner). DrewStages limit (fourStages (wallsOf true v) (lidFace cs v (lidAt s i outer holes .triangles) ∷ []) (floorFaces cs v (lidAt s i outer holes .triangles)) []) before (drawing (tally 0 0 0) vs ns is) (drawing b vs′ ns′ is′) (d .tally ∷ a ∷ b ∷ b ∷ b ∷ b ∷ []))
+          l (all e) (stages-lidded limit (cornersAt s n (cornersOf i holes)) lid (lidAt s i outer holes .triangles) sides lids);
       offered = price ∙ ap (λ (m : ℕ). 2 * m + triangles + cond high triangles 0) e ∙ closed-offered high triangles (h ∙ ap (λ (m : ℕ). hasHeight (cornersAt s m (cornersOf i holes))) e) k;
       entries = entries;
       log = log;
@@ -160,23 +172,23 @@ module _ (s : List ℕ) (i : ℕ) (closed : Bool) (outer holes : ℕ) {o : Outli
       lid-room s i outer holes closed _ h placed (subst (λ (o : OutlineAt). WallsDrew s closed o limit before (drawing (tally 0 0 0) vs ns is) d) e p)
 
   module _ {limit : Float} {before : ℕ} {vs ns : List Float} {is : List ℕ} where
-    pub open-in : {ls : List ℕ} {r : Drawn} {vs′ ns′ : List Float} {is′ : List ℕ} → closed ≡ false
-        → WallsDrew s closed o limit before (drawing (tally 0 0 0) vs ns is) (drawing (r .tally) vs′ ns′ is′) → r .offered ≡ 2 * (o .outer - 1) + 2 * (o .n - o .outer) → r .entries ≡ 0
-        → DrewObject limit (outlineShape s i closed outer holes) before vs ns is ls r vs′ ns′ is′ ls
-    open-in {ls} {r} {vs′} {ns′} {is′} c sides price none =
-        subst (λ (o : OutlineAt). WallsDrew s closed o limit before (drawing (tally 0 0 0) vs ns is) (drawing (r .tally) vs′ ns′ is′) → r .offered ≡ 2 * (o .outer - 1) + 2 * (o .n - o .outer)
-        → DrewObject limit (outlineShape s i closed outer holes) before vs ns is ls r vs′ ns′ is′ ls) (sym e)
-        (λ drew offered. open-object s i outer holes closed c refl refl drew offered none) sides price
+    pub open-in : {ls : List ℕ} {t : Tally} {price : ℕ} {vs′ ns′ : List Float} {is′ : List ℕ} → closed ≡ false
+        → WallsDrew s closed o limit before (drawing (tally 0 0 0) vs ns is) (drawing t vs′ ns′ is′) → price ≡ 2 * (o .outer - 1) + 2 * (o .n - o .outer)
+        → DrewObject limit (outlineShape s i closed outer holes) before vs ns is ls (openDrawn t price) vs′ ns′ is′ ls
+    open-in {ls} {t} {price} {vs′} {ns′} {is′} c sides priced =
+        subst (λ (o : OutlineAt). WallsDrew s closed o limit before (drawing (tally 0 0 0) vs ns is) (drawing t vs′ ns′ is′) → price ≡ 2 * (o .outer - 1) + 2 * (o .n - o .outer)
+        → DrewObject limit (outlineShape s i closed outer holes) before vs ns is ls (openDrawn t price) vs′ ns′ is′ ls) (sym e)
+        (λ drew offered. open-object s i outer holes closed c refl refl drew offered) sides priced
 
-    pub closed-in : {ls : List ℕ} {d : Drawing} {r : Drawn} {vs′ ns′ : List Float} {is′ ls′ : List ℕ} → closed ≡ true → WallsDrew s closed o limit before (drawing (tally 0 0 0) vs ns is) d
-        → Drew limit (lidFaces (cornersAt s (o .n) (o .at)) (o .lid) (lidIn s o .triangles)) before d (drawing (r .tally) vs′ ns′ is′)
-        → (r .offered ≡ 2 * o .n + length (lidIn s o .triangles) + cond (o .high) (length (lidIn s o .triangles)) 0) × (r .entries ≡ length (lidIn s o .log)) × (ls′ ≡ logWith ls 0 (lidIn s o .log))
-        → DrewObject limit (outlineShape s i closed outer holes) before vs ns is ls r vs′ ns′ is′ ls′
-    closed-in {ls} {d} {r} {vs′} {ns′} {is′} {ls′} c sides lids told =
+    pub closed-in : {ls : List ℕ} {d : Drawing} {a b : Tally} {price entries : ℕ} {vs′ ns′ : List Float} {is′ ls′ : List ℕ} → closed ≡ true → WallsDrew s closed o limit before (drawing (tally 0 0 0) vs ns is) d
+        → DrewStages limit (lidStages (cornersAt s (o .n) (o .at)) (o .lid) (lidIn s o .triangles)) before d (drawing b vs′ ns′ is′) (a ∷ b ∷ [])
+        → (price ≡ 2 * o .n + length (lidIn s o .triangles) + cond (o .high) (length (lidIn s o .triangles)) 0) × (entries ≡ length (lidIn s o .log)) × (ls′ ≡ logWith ls 0 (lidIn s o .log))
+        → DrewObject limit (outlineShape s i closed outer holes) before vs ns is ls (closedDrawn (d .tally) a b price entries) vs′ ns′ is′ ls′
+    closed-in {ls} {d} {a} {b} {price} {entries} {vs′} {ns′} {is′} {ls′} c sides lids told =
         subst (λ (o : OutlineAt). WallsDrew s closed o limit before (drawing (tally 0 0 0) vs ns is) d
-        → Drew limit (lidFaces (cornersAt s (o .n) (o .at)) (o .lid) (lidIn s o .triangles)) before d (drawing (r .tally) vs′ ns′ is′)
-        → (r .offered ≡ 2 * o .n + length (lidIn s o .triangles) + cond (o .high) (length (lidIn s o .triangles)) 0) × (r .entries ≡ length (lidIn s o .log)) × (ls′ ≡ logWith ls 0 (lidIn s o .log))
-        → DrewObject limit (outlineShape s i closed outer holes) before vs ns is ls r vs′ ns′ is′ ls′) (sym e)
+        → DrewStages limit (lidStages (cornersAt s (o .n) (o .at)) (o .lid) (lidIn s o .triangles)) before d (drawing b vs′ ns′ is′) (a ∷ b ∷ [])
+        → (price ≡ 2 * o .n + length (lidIn s o .triangles) + cond (o .high) (length (lidIn s o .triangles)) 0) × (entries ≡ length (lidIn s o .log)) × (ls′ ≡ logWith ls 0 (lidIn s o .log))
+        → DrewObject limit (outlineShape s i closed outer holes) before vs ns is ls (closedDrawn (d .tally) a b price entries) vs′ ns′ is′ ls′) (sym e)
         (λ sides lids told. closed-object s i outer holes closed c refl refl (ap (λ (b : Bool). cond b (hasHeight (cornersAt s (outer + holeCorners s i holes) (cornersOf i holes))) false) c) sides lids refl (told .0) (told .1) (told .2))
         sides lids told
 

@@ -152,10 +152,19 @@ pub fn outline(
     let o = outline_at(s, i, closed, outer, holes);
     let t = all_walls(s, o, closed, limit, before, vs, ns, is);
     if closed {
-        return cap(s, o, limit, before, t, vs, ns, is, log);
+        let c = cap(s, o, limit, before, t, vs, ns, is, log);
+        let lid = c.lid;
+        let floor = c.floor;
+        return Drawn {
+            first: 1,
+            after: [t, lid, floor, floor, floor, floor],
+            offered: c.offered,
+            entries: c.entries,
+        };
     }
     Drawn {
-        tally: t,
+        first: 1,
+        after: [t, t, t, t, t, t],
         offered: open_price(o.outer, o.n),
         entries: 0,
     }

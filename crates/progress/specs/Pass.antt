@@ -16,6 +16,7 @@ use Rattle.face.specs.Faces.{writeFaces}
 use Rattle.face.specs.Drawing.{tally}
 use Rattle.lid.specs.Log.{logNumbers}
 use Rattle.shapes.specs.declared.Drawn.{Drawn}
+use Rattle.shapes.specs.Stages.{lastOf}
 use Rattle.shapes.specs.Price.{offered}
 use Rattle.shapes.specs.Shapes.{facesOf, logOf}
 use Rattle.progress.specs.declared.Progress.{Progress}
@@ -41,19 +42,28 @@ unfoldable pub spanBy : ℕ → Progress → Tally → List Span
 spanBy id p t =
     cond (eqb (t .kept) 0) [] (record { id = id; vertexStart = p .vertices; vertexEnd = p .vertices + t .vertices; indexStart = 3 * p .kept; indexEnd = 3 * (p .kept + t .kept) } ∷ [])
 
-abbrev pub accountBy : Drawn → List ℕ
+-- what drawing it came to, all stages together
+pub record Came : Type 0 where
+  pub tally : Tally
+  pub offered : ℕ
+  pub entries : ℕ
+
+abbrev pub cameTo : Drawn → Came
+cameTo d = record { tally = lastOf (d .after); offered = d .offered; entries = d .entries }
+
+abbrev pub accountBy : Came → List ℕ
 accountBy d = d .offered ∷ d .tally .kept ∷ d .tally .thin ∷ d .entries ∷ []
 
 abbrev pub spansMore : ℕ → ℕ
 spansMore kept = cond (eqb kept 0) 0 1
 
 -- behind a record of so many bytes
-abbrev pub advanced : Progress → ℕ → Drawn → Progress
+abbrev pub advanced : Progress → ℕ → Came → Progress
 advanced p size d =
     record { at = p .at + size; objects = p .objects + 1; vertices = p .vertices + d .tally .vertices; kept = p .kept + d .tally .kept; spans = p .spans + spansMore (d .tally .kept); entries = p .entries + d .entries }
 
 -- all of that fits the program's numbers
-pub record CanAdvance (p : Progress) (size : ℕ) (d : Drawn) : Type 0 where
+pub record CanAdvance (p : Progress) (size : ℕ) (d : Came) : Type 0 where
   pub at : p .at + size < 2 ^ 64
   pub objects : p .objects + 1 < 2 ^ 32
   pub vertices : p .vertices + d .tally .vertices < 2 ^ 32
@@ -62,12 +72,12 @@ pub record CanAdvance (p : Progress) (size : ℕ) (d : Drawn) : Type 0 where
   pub entries : p .entries + d .entries < 2 ^ 32
 
 -- what drawing a shape comes to, v vertices standing before it
-unfoldable pub drawnOf : Float → ℕ → Shape → Drawn
+unfoldable pub drawnOf : Float → ℕ → Shape → Came
 drawnOf limit v sh =
     record { tally = tally (length (writeFaces limit v (facesOf sh) .vertices)) (keptBy limit sh) (thinBy limit sh); offered = offered sh; entries = length (logOf sh) }
 
 -- a shape drawn behind what the buffers hold
-pub record DrewBehind (limit : Float) (sh : Shape) (p : Progress) (d : Drawn) (vs ns : List Float) (is ls : List ℕ) (vs′ ns′ : List Float) (is′ ls′ : List ℕ) : Type 0 where
+pub record DrewBehind (limit : Float) (sh : Shape) (p : Progress) (d : Came) (vs ns : List Float) (is ls : List ℕ) (vs′ ns′ : List Float) (is′ ls′ : List ℕ) : Type 0 where
   pub drawn : d ≡ drawnOf limit (p .vertices) sh
   pub vertices : vs′ ≡ sets vs (3 * p .vertices) (vertexNumbers (writeFaces limit (p .vertices) (facesOf sh) .vertices))
   pub normals : ns′ ≡ sets ns (3 * p .vertices) (normalNumbers (writeFaces limit (p .vertices) (facesOf sh) .normals))

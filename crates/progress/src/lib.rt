@@ -1,7 +1,7 @@
 // How far the pass over the records has come.
 ghost use mathlib.Core.Path.{_≡_};
 ghost use Prim.Native.Nat.{_*_, _<_, _≤_};
-ghost use Rattle.progress.specs.Pass.{startOf, StartsIn, spansMore, advanced, CanAdvance};
+ghost use Rattle.progress.specs.Pass.{startOf, StartsIn, spansMore, cameTo, advanced, CanAdvance};
 ghost use Rattle.progress.specs.Wrote.{countedBy};
 use answers::Counted;
 use shapes::Drawn;
@@ -70,10 +70,11 @@ fn spans_more(kept: u32) -> u32
 
 // Behind a record of so many bytes.
 pub fn advance(p: Progress, size: usize, d: Drawn) -> Progress
-    requires { ⌜ CanAdvance p size d ⌝ }
-    ensures { λ r. ⌜ r ≡ advanced p size d ⌝ }
+    requires { ⌜ CanAdvance p size (cameTo d) ⌝ }
+    ensures { λ r. ⌜ r ≡ advanced p size (cameTo d) ⌝ }
 {
-    let t = d.tally;
+    let after = d.after;
+    let t = after[5];
     Progress {
         at: p.at + size,
         objects: p.objects + 1,

@@ -25,7 +25,9 @@ use Rattle.face.specs.Drawing.{Drawing, Drew, Room}
 use Rattle.face.proofs.Counts.{count}
 use Rattle.face.proofs.Draws.{then, drew-room}
 use Rattle.fields.specs.Fields.{sectionAt, sectionsAt}
-use Rattle.shapes.specs.Shapes.{Ellipse, ellipse, ellipse0, startOut, endOut, endFace, tubeSide, tubeFaces, tubeCaps, pairs, roundSweepFaces}
+use Rattle.shapes.specs.Shapes.{Ellipse, ellipse, ellipse0, startOut, endOut, endFace, tubeSide, tubeFaces, tubeCaps, pairs}
+use Rattle.shapes.specs.Stages.{fourStages, roundStages, DrewStages}
+use Rattle.shapes.proofs.Stages.{stages-capped}
 use Rattle.ends.proofs.Rings.{list-more, drew-next}
 use Rattle.neighbours.specs.Places.{EndPlaces}
 use Rattle.round_sweeps.specs.Rings.{ringAbout}
@@ -84,8 +86,8 @@ module _ (s : List ℕ) (at : ℕ) where
       subst (λ (es : List Ellipse). Drew limit (pairs tubeFaces es) before d d″) (ellipses-are (k + 1 + 1))
       (pair-drawn tubeFaces (λ k. ellipse (sectionNumber k)) k (subst (λ (es : List Ellipse). Drew limit (pairs tubeFaces es) before d d′) (sym (ellipses-are (k + 1))) p) x y q)
 
-  pub round-none : (n : ℕ) → n ≡ 0 → roundSweepFaces (sectionsAt s n at) ≡ []
-  unfolding roundSweepFaces pairs tubeCaps sectionsAt list
+  pub round-none : (n : ℕ) → n ≡ 0 → roundStages (sectionsAt s n at) ≡ fourStages [] [] [] []
+  unfolding roundStages pairs tubeCaps sectionsAt list
   round-none zero e = refl
   round-none (suc n) e = absurd (omega arith)
 
@@ -137,12 +139,12 @@ module _ (s : List ℕ) (at : ℕ) where
       → EndPlaces at n second last previous → x ≡ ellipse (sectionAt s at) .ring → y ≡ ellipse (sectionNumber k) .ring → p ≡ ellipse (sectionAt s at) .centre
       → q ≡ ellipse (sectionAt s second) .centre → c ≡ ellipse (sectionNumber k) .centre → r ≡ ellipse (sectionAt s previous) .centre → u ≡ diff p q → w ≡ diff c r
       → Drew limit (pairs tubeFaces (map ellipse (sectionsAt s (k + 1) at))) before d d₁ → Drew limit (endFace x u 4 ∷ []) before d₁ d₂ → Drew limit (endFace y w 4 ∷ []) before d₂ d₃
-      → Drew limit (roundSweepFaces (sectionsAt s n at)) before d d₃
-  unfolding roundSweepFaces
+      → DrewStages limit (roundStages (sectionsAt s n at)) before d d₃ (d₁ .tally ∷ d₁ .tally ∷ d₁ .tally ∷ d₃ .tally ∷ d₃ .tally ∷ d₃ .tally ∷ [])
+  unfolding roundStages
   round-drawn n k {last = last} {limit} {x = x} {y} {c = c} g e f h i j l m v z a b t =
       let at-last : at + 48 * k ≡ last = omega (arith, e .end) in
       let at-end : at + 48 * k ≡ at + 48 * (n - 1) = omega arith in
       let caps =
       ap₂ (λ (u w : Vector). endFace x u 4 ∷ endFace y w 4 ∷ []) (v ∙ ap₂ diff i j) (z ∙ ap₂ diff (l ∙ ap (λ (o : ℕ). ellipse (sectionAt s o) .centre) at-last) m)
       ∙ tube-caps-drawn n x y (omega arith) e f (h ∙ ap (λ (o : ℕ). ellipse (sectionAt s o) .ring) at-end) in
-      rw (← caps) (then limit (rw g at a) (then limit b t))
+      rw (← caps) (stages-capped limit (rw g at a) (then limit b t))

@@ -6,9 +6,10 @@ mod ellipses;
 ghost use mathlib.Core.Path.{_≡_};
 ghost use Prim.Native.Nat.{_+_, _*_, _≤_};
 ghost use lib.ListN.{length};
-ghost use Rattle.face.specs.Drawing.{drawing, Drew, Room};
+ghost use Rattle.face.specs.Drawing.{drawing, Room};
 ghost use Rattle.fields.specs.Fields.{sectionAt, sectionsAt};
-ghost use Rattle.shapes.specs.Shapes.{ellipse, roundSweepFaces};
+ghost use Rattle.shapes.specs.Shapes.{ellipse};
+ghost use Rattle.shapes.specs.Stages.{roundStages, DrewStages, lastOf};
 use crate::ellipses::centre;
 use crate::ellipses::ellipse;
 use crate::ellipses::tube;
@@ -24,7 +25,8 @@ fn centre_at(s: &[u8], i: usize) -> Point
     centre(section_at(s, i))
 }
 
-// The round sweep of the n sections from place `at` on.
+// The round sweep of the n sections from place `at` on: what was written and counted after the pairs
+// and after the caps.
 pub fn round_sweep(
     s: &[u8],
     at: usize,
@@ -35,12 +37,12 @@ pub fn round_sweep(
     vs: &mut [f32],
     ns: &mut [f32],
     is: &mut [u32],
-) -> Tally
+) -> [Tally; 6]
     requires { ⌜ (at + 48 * n ≤ length (now s)) × Room before t (64 * n) (32 * n) ⌝ }
-    ensures { λ r. ⌜ Drew limit (roundSweepFaces (sectionsAt (now (s .entry)) n at)) before (drawing t (now (vs .entry)) (now (ns .entry)) (now (is .entry))) (drawing r (now (vs .exit)) (now (ns .exit)) (now (is .exit))) ⌝ }
+    ensures { λ r. ⌜ DrewStages limit (roundStages (sectionsAt (now (s .entry)) n at)) before (drawing t (now (vs .entry)) (now (ns .entry)) (now (is .entry))) (drawing (lastOf r) (now (vs .exit)) (now (ns .exit)) (now (is .exit))) r ⌝ }
 {
     if n == 0 {
-        return t;
+        return [t; 6];
     }
     let first = ellipse(section_at(s, at));
     let mut a = first;
@@ -60,5 +62,6 @@ pub fn round_sweep(
     let start_out = centre_at(s, at).sub(centre_at(s, p.second));
     let end_out = ca.sub(centre_at(s, p.previous));
     let w = ends::end(first, start_out, limit, before, u, vs, ns, is);
-    ends::end(a, end_out, limit, before, w, vs, ns, is)
+    let x = ends::end(a, end_out, limit, before, w, vs, ns, is);
+    [u, u, u, x, x, x]
 }

@@ -6,18 +6,21 @@ use native.Mathlib.Nat.{zero-add}
 use lib.Ieee.{Float}
 use Rattle.object.specs.Object.{Shape}
 use Rattle.face.specs.declared.Tally.{Tally}
-use Rattle.face.specs.Drawing.{counted}
+use Rattle.face.specs.Faces.{Face}
+use Rattle.face.specs.Drawing.{tally, counted}
 use Rattle.face.proofs.Draws.{drew-tally}
 use Rattle.shapes.specs.declared.Drawn.{Drawn}
 use Rattle.shapes.specs.Drawn.{DrewObject}
+use Rattle.shapes.specs.Stages.{lastOf}
+use Rattle.shapes.proofs.Stages.{stages-faces}
 use Rattle.scene_mesh.specs.Mesh.{keptBy}
 use Rattle.most.specs.Most.{ofShape, exactOf}
 
 pub drawn-exact : {limit area : Float} {sh : Shape} {vs ns vs′ ns′ : List Float} {is ls is′ ls′ : List ℕ} {d : Drawn}
-    → DrewObject limit sh 0 vs ns is ls d vs′ ns′ is′ ls′ → limit ≡ area → ofShape (d .tally .vertices) (d .tally .kept) (d .entries) ≡ exactOf area sh
+    → DrewObject limit sh 0 vs ns is ls d vs′ ns′ is′ ls′ → limit ≡ area → ofShape (lastOf (d .after) .vertices) (lastOf (d .after) .kept) (d .entries) ≡ exactOf area sh
 unfolding exactOf counted keptBy
 drawn-exact {limit} {area} {sh} r e =
-    let t = drew-tally limit (r .drew) in
+    let t = drew-tally limit (r .drew .drew) ∙ ap (λ (fs : List Face). counted limit 0 fs (tally 0 0 0)) (stages-faces sh) in
     let v = ap (λ (x : Tally). x .vertices) t ∙ zero-add _ in
     let k = ap (λ (x : Tally). x .kept) t ∙ zero-add _ in
     (λ i. ofShape (v i) (k i) (r .entries i)) ∙ ap (λ (x : Float). exactOf x sh) e

@@ -61,7 +61,8 @@ fn exact_at(s: &[u8], i: usize, body: Body) -> Most
         &mut is,
         &mut log,
     );
-    let t = d.tally;
+    let after = d.after;
+    let t = after[5];
     of_shape(t.vertices, t.kept, d.entries)
 }
 

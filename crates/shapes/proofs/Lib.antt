@@ -6,3 +6,4 @@ pub mod Prices
 pub mod Flats
 pub mod Sizes
 pub mod Rooms
+pub mod Stages

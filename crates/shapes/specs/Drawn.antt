@@ -8,10 +8,11 @@ use lib.Ieee.{Float}
 use Rattle.object.specs.Object.{Shape}
 use Rattle.scene.specs.declared.headers.Body.{Body}
 use Rattle.scene.specs.Headers.{bodySize, Limits}
-use Rattle.face.specs.Drawing.{tally, drawing, Drew}
+use Rattle.face.specs.Drawing.{tally, drawing}
 use Rattle.lid.specs.Log.{logNumbers}
 use Rattle.shapes.specs.declared.Drawn.{Drawn}
-use Rattle.shapes.specs.Shapes.{facesOf, logOf}
+use Rattle.shapes.specs.Shapes.{logOf}
+use Rattle.shapes.specs.Stages.{stagesOf, firstPart, DrewStages, lastOf}
 use Rattle.shapes.specs.Price.{offered}
 
 -- The body at place i, behind its record's kind and id, is one of an accepted scene, and no more vertices lie before it than such a scene has.
@@ -23,7 +24,8 @@ pub record CanDraw (s : List ℕ) (i : ℕ) (body : Body) (before : ℕ) : Type 
 
 -- The shape drawn from the start of the lent buffers, its log written from the start of the lent log. A store past a buffer's end is left out.
 pub record DrewObject (limit : Float) (sh : Shape) (before : ℕ) (vs ns : List Float) (is ls : List ℕ) (r : Drawn) (vs′ ns′ : List Float) (is′ ls′ : List ℕ) : Type 0 where
-  pub drew : Drew limit (facesOf sh) before (drawing (tally 0 0 0) vs ns is) (drawing (r .tally) vs′ ns′ is′)
+  pub first : r .first ≡ firstPart sh
+  pub drew : DrewStages limit (stagesOf sh) before (drawing (tally 0 0 0) vs ns is) (drawing (lastOf (r .after)) vs′ ns′ is′) (r .after)
   pub offered : r .offered ≡ offered sh
   pub entries : r .entries ≡ length (logOf sh)
   pub log : ls′ ≡ sets ls 0 (logNumbers (logOf sh))

@@ -1,3 +1,4 @@
 pub mod Shapes
 pub mod Price
 pub mod Drawn
+pub mod Stages

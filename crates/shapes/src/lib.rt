@@ -3,9 +3,11 @@
 
 use face::Tally;
 
-// What drawing one object came to.
+// What drawing one object came to: what was written and counted after each of its six stages, whose
+// parts are numbered from `first` on, its price and its log entries.
 pub struct Drawn {
-    pub tally: Tally,
+    pub first: u32,
+    pub after: [Tally; 6],
     pub offered: u32,
     pub entries: u32,
 }

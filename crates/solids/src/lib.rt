@@ -3,14 +3,15 @@ ghost use mathlib.Core.Path.{_≡_};
 ghost use Prim.Native.Nat.{_+_, _≤_};
 ghost use lib.ListN.{length};
 ghost use Rattle.fields.specs.Fields.{pointAt, orientationAt};
-ghost use Rattle.face.specs.Drawing.{drawing, Drew, Room};
-ghost use Rattle.shapes.specs.Shapes.{solidFaces};
+ghost use Rattle.face.specs.Drawing.{drawing, Room};
+ghost use Rattle.shapes.specs.Stages.{solidStages, DrewStages, lastOf};
 use boxes::cuboid;
 use cylinders::cylinder;
 use face::Tally;
 use object::Extent;
 
-// A solid whose position and orientation lie at i of the scene's bytes.
+// A solid whose position and orientation lie at i of the scene's bytes: what was written and counted
+// after each stage.
 pub fn solid(
     s: &[u8],
     i: usize,
@@ -21,9 +22,9 @@ pub fn solid(
     vs: &mut [f32],
     ns: &mut [f32],
     is: &mut [u32],
-) -> Tally
+) -> [Tally; 6]
     requires { ⌜ (i + 60 ≤ length (now s)) × Room before t 96 60 ⌝ }
-    ensures { λ r. ⌜ Drew limit (solidFaces (pointAt (now (s .entry)) i) (orientationAt (now (s .entry)) (i + 12)) extent) before (drawing t (now (vs .entry)) (now (ns .entry)) (now (is .entry))) (drawing r (now (vs .exit)) (now (ns .exit)) (now (is .exit))) ⌝ }
+    ensures { λ r. ⌜ DrewStages limit (solidStages (pointAt (now (s .entry)) i) (orientationAt (now (s .entry)) (i + 12)) extent) before (drawing t (now (vs .entry)) (now (ns .entry)) (now (is .entry))) (drawing (lastOf r) (now (vs .exit)) (now (ns .exit)) (now (is .exit))) r ⌝ }
 {
     let origin = geometry::point_at(s, i);
     let turn = geometry::orientation_at(s, i + 12);
@@ -46,6 +47,6 @@ pub fn solid(
         Extent::Cylinder(radius, height) => {
             cylinder(origin, turn, radius, height, limit, before, t, vs, ns, is)
         }
-        Extent::Unsized => t,
+        Extent::Unsized => [t; 6],
     }
 }

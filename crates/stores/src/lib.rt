@@ -3,7 +3,7 @@ ghost use mathlib.Core.Path.{_≡_};
 ghost use Prim.Native.Nat.{_+_, _*_, _<_, _^_};
 ghost use lib.Seq.{sets};
 ghost use Rattle.scene_mesh.specs.Mesh.{spanNumbers};
-ghost use Rattle.progress.specs.Pass.{spanBy, accountBy};
+ghost use Rattle.progress.specs.Pass.{spanBy, cameTo, accountBy};
 use face::Tally;
 use numbers::put_four;
 use numbers::put_number;
@@ -32,9 +32,10 @@ pub fn put_span(id: u32, p: Progress, t: Tally, spans: &mut [u32])
 
 // The account of object number n.
 pub fn put_account(n: u32, d: Drawn, account: &mut [u32])
-    ensures { λ _. ⌜ now (account .exit) ≡ sets (now (account .entry)) (4 * n) (accountBy d) ⌝ }
+    ensures { λ _. ⌜ now (account .exit) ≡ sets (now (account .entry)) (4 * n) (accountBy (cameTo d)) ⌝ }
 {
-    let t = d.tally;
+    let after = d.after;
+    let t = after[5];
     put_four(
         account,
         4 * (n as usize),

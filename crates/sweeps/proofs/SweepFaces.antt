@@ -22,7 +22,9 @@ use Rattle.face.proofs.Draws.{then}
 use Rattle.fields.specs.Fields.{pointAt, cornerAt, sectionAt, sectionsAt}
 use Rattle.scene.proofs.Parts.{sections-get}
 use Rattle.neighbours.specs.Places.{EndPlaces}
-use Rattle.shapes.specs.Shapes.{section0, isThinSection, isFlatSection, pairFaces, pairs, startOut, endOut, cap, sweepCaps, sweepFaces}
+use Rattle.shapes.specs.Shapes.{section0, isThinSection, isFlatSection, pairFaces, pairs, startOut, endOut, cap, sweepCaps}
+use Rattle.shapes.specs.Stages.{fourStages, sweepStages, DrewStages}
+use Rattle.shapes.proofs.Stages.{stages-capped}
 use Rattle.neighbours.proofs.Neighbours.{ends-are}
 
 -- the points of a face
@@ -67,8 +69,8 @@ module _ (a b : Section) {limit : Float} {before : ℕ} {out : Vector} {thinA th
     whole-pair f below floor = rw (both isA isB t, both onA onB f, ← side, ← behind, ← below) (then limit left (then limit right (then limit top floor)))
 
 module _ (s : List ℕ) (at : ℕ) where
-  pub sweep-none : (n : ℕ) → n ≡ 0 → sweepFaces (sectionsAt s n at) ≡ []
-  unfolding sweepFaces pairs sweepCaps sectionsAt list
+  pub sweep-none : (n : ℕ) → n ≡ 0 → sweepStages (sectionsAt s n at) ≡ fourStages [] [] [] []
+  unfolding sweepStages pairs sweepCaps sectionsAt list
   sweep-none zero e = refl
   sweep-none (suc n) e = absurd (omega arith)
 
@@ -107,9 +109,9 @@ module _ (s : List ℕ) (at : ℕ) where
       → u ≡ diff (x .left .base) p → w ≡ diff (y .left .base) q → Drew limit (pairs pairFaces (sectionsAt s (k + 1) at)) before d d₁
       → Drew limit (quad 4 (x .left .base) (x .right .base) (x .right .top) (x .left .top) u ∷ []) before d₁ d₂
       → Drew limit (quad 4 (y .left .base) (y .right .base) (y .right .top) (y .left .top) w ∷ []) before d₂ d₃
-      → Drew limit (sweepFaces (sectionsAt s n at)) before d d₃
-  unfolding sweepFaces cap
+      → DrewStages limit (sweepStages (sectionsAt s n at)) before d d₃ (d₁ .tally ∷ d₁ .tally ∷ d₁ .tally ∷ d₃ .tally ∷ d₃ .tally ∷ d₃ .tally ∷ [])
+  unfolding sweepStages cap
   sweep-drawn n k {last = last} {limit} {y = y} g e f h i j v z a b c =
       let m : at + 48 * k ≡ last = omega (arith, e .end) in
       let l : y ≡ sectionAt s last = h ∙ ap (sectionAt s) m in
-      rw (← caps-drawn n (omega arith) e, ← f, ← l, ← i, ← j, ← v, ← z) (then limit (rw g at a) (then limit b c))
+      rw (← caps-drawn n (omega arith) e, ← f, ← l, ← i, ← j, ← v, ← z) (stages-capped limit (rw g at a) (then limit b c))

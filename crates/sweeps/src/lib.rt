@@ -9,7 +9,8 @@ ghost use Rattle.vectors.specs.Vectors.{vector};
 ghost use Rattle.coords.specs.Coords.{diff};
 ghost use Rattle.face.specs.Drawing.{drawing, Drew, Room};
 ghost use Rattle.fields.specs.Fields.{sectionsAt};
-ghost use Rattle.shapes.specs.Shapes.{pairFaces, sweepFaces};
+ghost use Rattle.shapes.specs.Shapes.{pairFaces};
+ghost use Rattle.shapes.specs.Stages.{sweepStages, DrewStages, lastOf};
 use coords::Point;
 use face::Tally;
 use faces::quad;
@@ -108,7 +109,8 @@ fn pair(
     )
 }
 
-// The sweep of the n sections from place `at` on.
+// The sweep of the n sections from place `at` on: what was written and counted after the pairs and
+// after the caps.
 pub fn sweep(
     s: &[u8],
     at: usize,
@@ -119,12 +121,12 @@ pub fn sweep(
     vs: &mut [f32],
     ns: &mut [f32],
     is: &mut [u32],
-) -> Tally
+) -> [Tally; 6]
     requires { ⌜ (at + 48 * n ≤ length (now s)) × Room before t (16 * n) (8 * n) ⌝ }
-    ensures { λ r. ⌜ Drew limit (sweepFaces (sectionsAt (now (s .entry)) n at)) before (drawing t (now (vs .entry)) (now (ns .entry)) (now (is .entry))) (drawing r (now (vs .exit)) (now (ns .exit)) (now (is .exit))) ⌝ }
+    ensures { λ r. ⌜ DrewStages limit (sweepStages (sectionsAt (now (s .entry)) n at)) before (drawing t (now (vs .entry)) (now (ns .entry)) (now (is .entry))) (drawing (lastOf r) (now (vs .exit)) (now (ns .exit)) (now (is .exit))) r ⌝ }
 {
     if n == 0 {
-        return t;
+        return [t; 6];
     }
     let mut a = section_at(s, at);
     let mut u = t;
@@ -150,7 +152,7 @@ pub fn sweep(
         ns,
         is,
     );
-    quad(
+    let x = quad(
         a.left.base,
         a.right.base,
         a.right.top,
@@ -162,5 +164,6 @@ pub fn sweep(
         vs,
         ns,
         is,
-    )
+    );
+    [u, u, u, x, x, x]
 }

@@ -7,7 +7,8 @@ use Rattle.lists.specs.Loops.{join}
 use Rattle.scene.proofs.Parts.{sections-length}
 use Rattle.fields.specs.Fields.{sectionsAt}
 use Rattle.shapes.specs.Price.{offered}
-use Rattle.shapes.specs.Shapes.{logOf, facesOf}
+use Rattle.shapes.specs.Shapes.{logOf}
+use Rattle.shapes.specs.Stages.{stagesOf}
 use Rattle.draw.proofs.draw_sections.Statement.{statement}
 use Rattle.draw.proofs.draw_sections.Tie as tie
 
@@ -17,10 +18,10 @@ round-sweep-requires c κs =
     (p .0, record { vertices = omega (arith, p .1, p .2); kept = omega (arith, p .1); thin = omega (arith, p .1) })
 
 returns : tie.Need-returns
-unfolding facesOf logOf logNumbers join
+unfolding stagesOf logOf logNumbers join
 returns c =
     let a = c .before .before .before .before .before .before .before .before .before .before .before .before .before .before .before .before .args in
-    λ log. rw (c .before .before .before .before .before .before .before .before .before .before .before .if1 .taken) (record { drew = c .before .before .before .before .before .before .before .round-sweep .ensures; offered = c .round-sweep-price .ensures (sectionsAt (a .s .now) (a .n) (a .at)) (sections-length (a .s .now) (a .n) (a .at)); entries = refl; log = refl })
+    λ log. rw (c .before .before .before .before .before .before .before .before .before .before .before .if1 .taken) (record { first = refl; drew = c .before .before .before .before .before .before .before .round-sweep .ensures; offered = c .round-sweep-price .ensures (sectionsAt (a .s .now) (a .n) (a .at)) (sections-length (a .s .now) (a .n) (a .at)); entries = refl; log = refl })
 
 sweep-requires : tie.Need-sweep-requires
 sweep-requires c κs =
@@ -28,8 +29,8 @@ sweep-requires c κs =
     (p .0, record { vertices = omega (arith, p .1, p .2); kept = omega (arith, p .1); thin = omega (arith, p .1) })
 
 returns-2 : tie.Need-returns-2
-unfolding facesOf logOf logNumbers join
-returns-2 c = λ log. rw (c .before .before .before .before .before .before .before .before .before .before .before .if1 .left) (record { drew = c .before .before .before .before .before .before .before .sweep .ensures; offered = c .sweep-price .ensures; entries = refl; log = refl })
+unfolding stagesOf logOf logNumbers join
+returns-2 c = λ log. rw (c .before .before .before .before .before .before .before .before .before .before .before .if1 .left) (record { first = refl; drew = c .before .before .before .before .before .before .before .sweep .ensures; offered = c .sweep-price .ensures; entries = refl; log = refl })
 
 pub draw-sections-spec : {M : Type 1} → statement M
 draw-sections-spec =

@@ -18,20 +18,20 @@ lid-faces-requires c κs =
 
 closed-price-requires : tie.Need-closed-price-requires
 closed-price-requires c κs =
-    let m = c .before .before .before .before .before .before .before .before .before .before .before .before .before .before .before .before .before .before .before .before .before .before .before .before .before .before .before .before .before .before .before .before .pre .0 .0 in
-    (omega (arith, m .all, m .placed .corners), omega (arith, c .before .before .before .before .before .before .before .before .before .before .before .before .before .before .before .before .before .before .before .before .before .cut .ensures .offered, few-triangles _ _ _ _ (m .placed)))
+    let m = c .before .before .before .before .before .before .before .before .before .before .before .before .before .before .before .before .before .before .before .before .before .before .before .before .before .before .before .before .before .before .before .before .before .before .pre .0 .0 in
+    (omega (arith, m .all, m .placed .corners), omega (arith, c .before .before .before .before .before .before .before .before .before .before .before .before .before .before .before .before .before .before .before .before .before .before .before .cut .ensures .offered, few-triangles _ _ _ _ (m .placed)))
 
 returns : tie.Need-returns
 returns c =
-    let z = c .before .before .before .before .before .before .before .before .before .before .before .before .before .before .before .before .before .before .before .before .before .before .before .before .before .before .before .before .before .before .before .before .before in
+    let z = c .before .before .before .before .before .before .before .before .before .before .before .before .before .before .before .before .before .before .before .before .before .before .before .before .before .before .before .before .before .before .before .before .before .before .before in
     let o = z .args .o in
-    let d = c .before .before .before .before .before .before .before .before .before .before .before .before .before .before .before .before .before .before .before .before .before .before .cut .ensures in
-    let drawn = triangles-drawn _ _ (lidAt (z .args .s .now) (o .i) (o .outer) (o .holes) .triangles) (c .before .before .before .before .before .before .before .before .before .before .before .before .before .before .before .before .before .before .before .before .before .before .cut .result .triangles) (d .offered) (d .drawn) (z .pre .1 .1) in
-    (rw drawn at (c .before .before .before .before .before .before .before .before .before .lid-faces .ensures), (c .closed-price .ensures ∙ ap (λ (k : ℕ). 2 * o .n + k + cond (o .high) k 0) (d .offered), d .entries ∙ zero-add _, d .written))
+    let d = c .before .before .before .before .before .before .before .before .before .before .before .before .before .before .before .before .before .before .before .before .before .before .before .before .cut .ensures in
+    let drawn = triangles-drawn _ _ (lidAt (z .args .s .now) (o .i) (o .outer) (o .holes) .triangles) (c .before .before .before .before .before .before .before .before .before .before .before .before .before .before .before .before .before .before .before .before .before .before .before .before .cut .result .triangles) (d .offered) (d .drawn) (z .pre .1 .1) in
+    (rw drawn at (c .before .before .before .before .before .before .before .before .before .before .before .lid-faces .ensures), (c .closed-price .ensures ∙ ap (λ (k : ℕ). 2 * o .n + k + cond (o .high) k 0) (d .offered), d .entries ∙ zero-add _, d .written))
 
 pub cap-in-spec : {M : Type 1} → statement M
 cap-in-spec =
     tie.close
     (tie.spec (λ c κs. (c .before .before .before .before .before .before .before .before .before .before .pre .0 .0, omega (arith, c .before .before .before .before .before .before .before .before .before .before .pre .1 .0))) (λ c. omega (arith, c .before .before .before .before .before .before .before .cut .ensures .offered, few-triangles _ _ _ _ (c .before .before .before .before .before .before .before .before .before .before .before .before .before .before .before .before .before .before .pre .0 .0 .placed))) (λ c. omega (arith, c .before .before .before .before .before .before .before .cut .ensures .offered, few-triangles _ _ _ _ (c .before .before .before .before .before .before .before .before .before .before .before .before .before .before .before .before .before .before .pre .0 .0 .placed)))
     (λ c. omega (arith, c .before .before .before .before .before .before .before .cut .ensures .offered, c .before .before .before .before .before .before .before .before .before .before .before .before .before .before .before .before .before .before .pre .1 .1, c .before .before .ts .given)) (λ c. sym (length-take-le _ _ (omega (arith, c .before .before .before .before .before .before .before .before .cut .ensures .offered, c .before .before .before .before .before .before .before .before .before .before .before .before .before .before .before .before .before .before .before .pre .1 .1, c .before .before .before .ts .given)))) lid-faces-requires closed-price-requires
-    (λ c. c .before .before .before .before .before .before .before .before .room2 .given ∙ c .before .before .before .before .before .before .before .before .before .before .before .before .before .before .before .before .before .before .before .before .before .room .given) (λ c. c .before .before .before .before .before .before .before .before .before .before .before .before .before .before .before .before .before .ts .given) (λ c. c .before .before .before .before .before .before .vs .given) (λ c. c .before .before .before .before .ns .given) (λ c. c .before .before .is .given) (λ c. c .before .before .before .before .before .before .before .before .before .before .before .before .before .before .before .before .before .before .before .log .given) returns)
+    (λ c. c .before .before .before .before .before .before .before .before .before .before .room2 .given ∙ c .before .before .before .before .before .before .before .before .before .before .before .before .before .before .before .before .before .before .before .before .before .before .before .room .given) (λ c. c .before .before .before .before .before .before .before .before .before .before .before .before .before .before .before .before .before .before .before .ts .given) (λ c. c .before .before .before .before .before .before .before .before .vs .given) (λ c. c .before .before .before .before .before .before .ns .given) (λ c. c .before .before .before .before .is .given) (λ c. c .before .before .before .before .before .before .before .before .before .before .before .before .before .before .before .before .before .before .before .before .before .log .given) returns)

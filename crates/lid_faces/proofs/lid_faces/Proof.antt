@@ -5,11 +5,12 @@ use native.Mathlib.Omega.{arith}
 use lib.ListN.{length}
 use lib.Seq.{length-take-le}
 use Rattle.triangles.specs.Triangles.{trianglesIn}
-use Rattle.face.proofs.Draws.{then, room-less}
+use Rattle.face.proofs.Draws.{room-less}
 use Rattle.faces.proofs.OneFace.{length-triangles}
 use Rattle.corners.proofs.CornerLaws.{bases-points, tops-points, points-length}
 use Rattle.lid_faces.proofs.LidLaws.{points-drawn, face-asks, face-room}
-use Rattle.shapes.specs.Shapes.{lidFaces}
+use Rattle.shapes.specs.Stages.{lidFace, floorFaces}
+use Rattle.shapes.proofs.Stages.{stages-none, stages-first, stages-empty}
 use Rattle.lid_faces.proofs.lid_faces.Statement.{statement}
 use Rattle.lid_faces.proofs.lid_faces.Tie as tie
 
@@ -34,7 +35,7 @@ face-requires-2 c κs =
     face-asks (trianglesIn (a .triangles .now)) _ _ e (points-length s (o .n) (o .at)) room (z .pre .1 .1)
 
 returns : tie.Need-returns
-unfolding lidFaces
+unfolding lidFace floorFaces
 returns c =
     let z = c .before .before .before .before .before .before .before .before .before .before .before .before .before .before .before .before .before .before .before .before .before .before .before .before .before .before .before .before .before .before .before .before .before .before .before .before .before .before .before .before in
     let a = z .args in
@@ -43,17 +44,17 @@ returns c =
     let top = points-drawn s (o .n) (o .at + 12) _ _ (c .before .before .before .before .before .before .before .before .before .before .before .before .before .before .before .before .before .before .before .before .before .before .before .before .before .before .before .before .before .before .put-points .ensures) (z .pre .0 .1) in
     let base = points-drawn s (o .n) (o .at) _ _ (c .before .before .before .before .before .before .before .before .before .before .before .before .before .before .put-points2 .ensures) (omega (arith, z .pre .0 .1, c .before .before .before .before .before .before .before .before .before .before .before .before .before .before .before .before .before .before .before .before .before .before .before .before .before .before .before .before .before .points .given)) in
     rw (← z .pre .0 .2, c .before .before .before .before .before .before .before .before .before .before .before .before .before .before .before .before .if1 .taken, tops-points s (o .n) (o .at), bases-points s (o .n) (o .at), ← c .before .before .before .before .before .before .before .before .before .before .before .neg .ensures)
-    (then (a .limit) (rw top at (c .before .before .before .before .before .before .before .before .before .before .before .before .before .before .before .before .before .before .before .before .before .before .before .face .ensures 2)) (rw base at (c .before .before .before .before .before .before .face2 .ensures 3)))
+    (stages-first (a .limit) 2 (rw top at (c .before .before .before .before .before .before .before .before .before .before .before .before .before .before .before .before .before .before .before .before .before .before .before .face .ensures 2)) (stages-first (a .limit) 3 (rw base at (c .before .before .before .before .before .before .face2 .ensures 3)) (stages-none (a .limit))))
 
 returns-2 : tie.Need-returns-2
-unfolding lidFaces
+unfolding lidFace floorFaces
 returns-2 c =
     let z = c .before .before .before .before .before .before .before .before .before .before .before .before .before .before .before .before .before .before .before .before .before .before .before .before in
     let a = z .args in
     let o = a .o in
     let s = a .s .now in
     let top = points-drawn s (o .n) (o .at + 12) _ _ (c .before .before .before .before .before .before .before .before .before .before .before .before .before .before .put-points .ensures) (z .pre .0 .1) in
-    rw (← z .pre .0 .2, c .if1 .left, tops-points s (o .n) (o .at)) (rw top at (c .before .before .before .before .before .before .before .face .ensures 2))
+    rw (← z .pre .0 .2, c .if1 .left, tops-points s (o .n) (o .at)) (stages-first (a .limit) 2 (rw top at (c .before .before .before .before .before .before .before .face .ensures 2)) (stages-empty (a .limit) 3 (stages-none (a .limit))))
 
 pub lid-faces-spec : {M : Type 1} → statement M
 lid-faces-spec =

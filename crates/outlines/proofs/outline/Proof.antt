@@ -1,5 +1,5 @@
 -- `outlines::outline` meets its contract. Assumes nothing.
-use mathlib.Core.Path.{refl, _∙_}
+use mathlib.Core.Path.{_∙_}
 use native.Mathlib.Omega.{arith}
 use Rattle.outlines.proofs.OutlineLaws.{measured-in, high-in, room-in, open-in, closed-in}
 use Rattle.outlines.proofs.outline.Statement.{statement}
@@ -20,8 +20,8 @@ cap-requires c κs =
 
 returns : tie.Need-returns
 returns c =
-    let a = c .before .before .before .before .before .before .before .before .before .before .before .before .before .before .before .before .before .before .before .before .before .before .before .before .before .before .before .before .before .before .args in
-    closed-in (a .s .now) (a .i) (a .closed) (a .outer) (a .holes) (c .before .before .before .before .before .before .before .before .before .before .before .before .before .before .before .before .before .before .before .before .before .before .before .before .outline-at .ensures) (c .before .before .before .before .before .before .before .before .before .before .before .before .before .if1 .taken) (c .before .before .before .before .before .before .before .before .before .before .before .before .before .before .before .before .before .before .before .before .all-walls .ensures) (c .before .before .before .before .before .before .before .before .cap .ensures .0) (c .before .before .before .before .before .before .before .before .cap .ensures .1)
+    let a = c .before .before .before .before .before .before .before .before .before .before .before .before .before .before .before .before .before .before .before .before .before .before .before .before .before .before .before .before .before .before .before .before .args in
+    closed-in (a .s .now) (a .i) (a .closed) (a .outer) (a .holes) (c .before .before .before .before .before .before .before .before .before .before .before .before .before .before .before .before .before .before .before .before .before .before .before .before .before .before .outline-at .ensures) (c .before .before .before .before .before .before .before .before .before .before .before .before .before .before .before .if1 .taken) (c .before .before .before .before .before .before .before .before .before .before .before .before .before .before .before .before .before .before .before .before .before .before .all-walls .ensures) (c .before .before .before .before .before .before .before .before .before .before .cap .ensures .0) (c .before .before .before .before .before .before .before .before .before .before .cap .ensures .1)
 
 open-price-requires : tie.Need-open-price-requires
 open-price-requires c κs =
@@ -32,11 +32,11 @@ open-price-requires c κs =
 returns-2 : tie.Need-returns-2
 returns-2 c =
     let a = c .before .before .before .before .before .before .before .before .before .before .before .before .before .before .before .before .before .before .args in
-    open-in (a .s .now) (a .i) (a .closed) (a .outer) (a .holes) (c .before .before .before .before .before .before .before .before .before .before .before .before .outline-at .ensures) (c .before .if1 .left) (c .before .before .before .before .before .before .before .before .all-walls .ensures) (c .open-price .ensures) refl
+    open-in (a .s .now) (a .i) (a .closed) (a .outer) (a .holes) (c .before .before .before .before .before .before .before .before .before .before .before .before .outline-at .ensures) (c .before .if1 .left) (c .before .before .before .before .before .before .before .before .all-walls .ensures) (c .open-price .ensures)
 
 pub outline-spec : {M : Type 1} → statement M
 outline-spec =
     tie.close
     (tie.spec (λ c κs. c .before .before .before .before .before .pre .0) all-walls-requires cap-requires
-    (λ c. c .before .before .before .before .before .before .before .vs2 .given ∙ c .before .before .before .before .before .before .before .before .before .before .before .before .before .before .before .before .before .before .before .vs .given) (λ c. c .before .before .before .before .before .ns2 .given ∙ c .before .before .before .before .before .before .before .before .before .before .before .before .before .before .before .before .before .ns .given) (λ c. c .before .before .before .is2 .given ∙ c .before .before .before .before .before .before .before .before .before .before .before .before .before .before .before .is .given) (λ c. c .before .log .given) returns open-price-requires
+    (λ c. c .before .before .before .before .before .before .before .before .before .vs2 .given ∙ c .before .before .before .before .before .before .before .before .before .before .before .before .before .before .before .before .before .before .before .before .before .vs .given) (λ c. c .before .before .before .before .before .before .before .ns2 .given ∙ c .before .before .before .before .before .before .before .before .before .before .before .before .before .before .before .before .before .before .before .ns .given) (λ c. c .before .before .before .before .before .is2 .given ∙ c .before .before .before .before .before .before .before .before .before .before .before .before .before .before .before .before .before .is .given) (λ c. c .before .before .before .log .given) returns open-price-requires
     (λ c. c .before .before .before .before .before .before .before .vs .given) (λ c. c .before .before .before .before .before .ns .given) (λ c. c .before .before .before .is .given) returns-2)

@@ -16,7 +16,7 @@ use Rattle.object.specs.Object.{Shape, Object}
 use Rattle.scene.specs.declared.headers.Header.{Header}
 use Rattle.scene.specs.Headers.{bodyAt, headerAt, shapeOf, objectOf}
 use Rattle.face.specs.declared.Tally.{Tally}
-use Rattle.face.specs.Faces.{Piece, thinIn, keptOf, writeFaces}
+use Rattle.face.specs.Faces.{Face, Piece, thinIn, keptOf, writeFaces}
 use Rattle.face.specs.Drawing.{tally, Drawing, drawing, counted, drawn}
 use Rattle.face.proofs.Counts.{faces-account}
 use Rattle.face.proofs.Draws.{vertices-most}
@@ -25,18 +25,20 @@ use Rattle.shapes.specs.declared.Drawn.{Drawn}
 use Rattle.shapes.specs.Drawn.{CanDraw, DrewObject}
 use Rattle.shapes.specs.Shapes.{facesOf, logOf}
 use Rattle.shapes.specs.Price.{offered}
+use Rattle.shapes.specs.Stages.{lastOf}
+use Rattle.shapes.proofs.Stages.{stages-faces}
 use Rattle.shapes.proofs.Sizes.{Sized, body-sized}
 use Rattle.progress.specs.declared.Progress.{Progress}
 use Rattle.scene_mesh.specs.Operations.{lent}
 use Rattle.scene_mesh.specs.Mesh.{Span, keptBy, thinBy, accountOf, pieceOf, spanOf, spanNumbers}
-use Rattle.progress.specs.Pass.{startOf, spanBy, accountBy, spansMore, advanced, CanAdvance, drawnOf, DrewBehind, passOf, withObject, CanAdd, AddedObject}
+use Rattle.progress.specs.Pass.{startOf, spanBy, Came, cameTo, accountBy, spansMore, advanced, CanAdvance, drawnOf, DrewBehind, passOf, withObject, CanAdd, AddedObject}
 use Rattle.scene_mesh.proofs.Demand3.Spans.{piece-size}
 use Rattle.progress.proofs.Pass.Tails.{tailOf, backOf, lent-back}
 
 -- ---- the tails
 
 same-drawn : {t t′ : Tally} {o o′ n n′ : ℕ} → t ≡ t′ → o ≡ o′ → n ≡ n′
-    → _≡_ {A = Drawn} (record { tally = t; offered = o; entries = n }) (record { tally = t′; offered = o′; entries = n′ })
+    → _≡_ {A = Came} (record { tally = t; offered = o; entries = n }) (record { tally = t′; offered = o′; entries = n′ })
 same-drawn a b c = λ i. record { tally = a i; offered = b i; entries = c i }
 
 -- what a builder has drawn, by what it was lent
@@ -44,15 +46,15 @@ module _ {limit : Float} {sh : Shape} {v : ℕ} {vs ns : List Float} {is ls : Li
   abbrev w : Piece
   w = writeFaces limit v (facesOf sh)
 
-  drew-all : drawing (d .tally) vs′ ns′ is′
+  drew-all : drawing (lastOf (d .after)) vs′ ns′ is′
       ≡ drawing (counted limit v (facesOf sh) (tally 0 0 0)) (sets vs 0 (vertexNumbers (w .vertices))) (sets ns 0 (normalNumbers (w .normals))) (sets is 0 (w .indices))
   unfolding drawn counted
   drew-all =
       let faces = facesOf sh in
       let made : ℕ → Drawing = λ first. drawing (counted limit first faces (tally 0 0 0)) (sets vs 0 (vertexNumbers (writeFaces limit first faces .vertices))) (sets ns 0 (normalNumbers (writeFaces limit first faces .normals))) (sets is 0 (writeFaces limit first faces .indices)) in
-      r .drew .after ∙ ap made (add-zero v)
+      r .drew .drew .after ∙ ap (λ (fs : List Face). drawn limit fs v (drawing (tally 0 0 0) vs ns is)) (stages-faces sh) ∙ ap made (add-zero v)
 
-  pub drawn-is : d ≡ drawnOf limit v sh
+  pub drawn-is : cameTo d ≡ drawnOf limit v sh
   unfolding counted drawnOf keptBy thinBy
   drawn-is =
       let faces = facesOf sh in
@@ -61,7 +63,7 @@ module _ {limit : Float} {sh : Shape} {v : ℕ} {vs ns : List Float} {is ls : Li
 module _ (limit : Float) (sh : Shape) (p : Progress) (vs ns : List Float) (is ls : List ℕ) {d : Drawn} {vs′ ns′ : List Float} {is′ ls′ : List ℕ} where
   drew-at-starts : DrewObject limit sh (p .vertices) (tailOf vs (startOf (length vs) (3 * p .vertices))) (tailOf ns (startOf (length ns) (3 * p .vertices)))
       (tailOf is (startOf (length is) (3 * p .kept))) (tailOf ls (startOf (length ls) (4 * p .entries))) d vs′ ns′ is′ ls′
-      → DrewBehind limit sh p d vs ns is ls (backOf vs (startOf (length vs) (3 * p .vertices)) vs′) (backOf ns (startOf (length ns) (3 * p .vertices)) ns′)
+      → DrewBehind limit sh p (cameTo d) vs ns is ls (backOf vs (startOf (length vs) (3 * p .vertices)) vs′) (backOf ns (startOf (length ns) (3 * p .vertices)) ns′)
       (backOf is (startOf (length is) (3 * p .kept)) is′) (backOf ls (startOf (length ls) (4 * p .entries)) ls′)
   drew-at-starts r =
       let w = writeFaces limit (p .vertices) (facesOf sh) in
@@ -76,7 +78,7 @@ module _ (limit : Float) (sh : Shape) (p : Progress) (vs ns : List Float) (is ls
   -- what a builder that was lent the tails has drawn stands behind what the buffers hold
   pub drew-behind : {a b k e : ℕ} → a ≡ startOf (length vs) (3 * p .vertices) → b ≡ startOf (length ns) (3 * p .vertices) → k ≡ startOf (length is) (3 * p .kept)
       → e ≡ startOf (length ls) (4 * p .entries) → DrewObject limit sh (p .vertices) (tailOf vs a) (tailOf ns b) (tailOf is k) (tailOf ls e) d vs′ ns′ is′ ls′
-      → DrewBehind limit sh p d vs ns is ls (backOf vs a vs′) (backOf ns b ns′) (backOf is k is′) (backOf ls e ls′)
+      → DrewBehind limit sh p (cameTo d) vs ns is ls (backOf vs a vs′) (backOf ns b ns′) (backOf is k is′) (backOf ls e ls′)
   drew-behind p₁ p₂ p₃ p₄ r = rw (p₁, p₂, p₃, p₄) (drew-at-starts (rw (p₁, p₂, p₃, p₄) at r))
 
 -- ---- all of it fits
@@ -109,15 +111,15 @@ module _ {s : List ℕ} {p : Progress} (a : CanAdd s p) where
     pub can-draw : CanDraw s (p .at + 5) (h .body) (p .vertices)
     can-draw = subst (λ (x : Header). CanDraw s (p .at + 5) (x .body) (p .vertices)) (sym e) can-draw-next
 
-    pub can-advance : (limit : Float) (d : Drawn) → d ≡ drawnOf limit (p .vertices) (shapeOf s (p .at + 5) (h .body)) → CanAdvance p (h .size) d
+    pub can-advance : (limit : Float) (d : Came) → d ≡ drawnOf limit (p .vertices) (shapeOf s (p .at + 5) (h .body)) → CanAdvance p (h .size) d
     unfolding drawnOf
     can-advance limit d q =
         let H = headerAt s (p .at) in
         let r = subst (λ (x : Header). d ≡ drawnOf limit (p .vertices) (shapeOf s (p .at + 5) (x .body))) e q in
         let m = shape-most limit (p .vertices) (H .size) (shapeOf s (p .at + 5) (H .body)) next-sized in
-        let x = ap (λ (x : Drawn). x .tally .vertices) r in
-        let y = ap (λ (x : Drawn). x .tally .kept) r in
-        let z = ap (λ (x : Drawn). x .entries) r in
+        let x = ap (λ (x : Came). x .tally .vertices) r in
+        let y = ap (λ (x : Came). x .tally .kept) r in
+        let z = ap (λ (x : Came). x .entries) r in
         let mv = m .vertices in
         let mk = m .kept in
         let me = m .entries in
@@ -158,7 +160,7 @@ span-count id p t = one-or-none (eqb (t .kept) 0) _
 
 -- ---- the object
 
-module _ (limit : Float) (s : List ℕ) (p : Progress) (vs ns : List Float) (is ss accounts ls : List ℕ) {vs′ ns′ : List Float} {is′ ss′ accounts′ ls′ : List ℕ} {h : Header} {d : Drawn} {r : Progress} where
+module _ (limit : Float) (s : List ℕ) (p : Progress) (vs ns : List Float) (is ss accounts ls : List ℕ) {vs′ ns′ : List Float} {is′ ss′ accounts′ ls′ : List ℕ} {h : Header} {d : Came} {r : Progress} where
   added-by : h ≡ headerAt s (p .at) → DrewBehind limit (shapeOf s (p .at + 5) (headerAt s (p .at) .body)) p d vs ns is ls vs′ ns′ is′ ls′
       → ss′ ≡ sets ss (5 * p .spans) (spanNumbers (spanBy (headerAt s (p .at) .id) p (d .tally))) → accounts′ ≡ sets accounts (4 * p .objects) (accountBy d) → r ≡ advanced p (h .size) d
       → passOf r (lent vs′ ns′ is′ ss′ accounts′ ls′) ≡ withObject limit (objectOf s (p .at) (headerAt s (p .at))) (passOf p (lent vs ns is ss accounts ls))
@@ -168,21 +170,21 @@ module _ (limit : Float) (s : List ℕ) (p : Progress) (vs ns : List Float) (is 
       let o = objectOf s (p .at) H in
       let D = drawnOf limit (p .vertices) (o .shape) in
       let q : d ≡ D = w .drawn in
-      let spans-are : spanBy (H .id) p (d .tally) ≡ spanOf (H .id) (p .vertices) (3 * p .kept) (pieceOf limit (p .vertices) o) = ap (λ (k : Drawn). spanBy (H .id) p (k .tally)) q ∙ span-is limit p o in
+      let spans-are : spanBy (H .id) p (d .tally) ≡ spanOf (H .id) (p .vertices) (3 * p .kept) (pieceOf limit (p .vertices) o) = ap (λ (k : Came). spanBy (H .id) p (k .tally)) q ∙ span-is limit p o in
       let more : p .spans + spansMore (d .tally .kept) ≡ p .spans + length (spanOf (H .id) (p .vertices) (3 * p .kept) (pieceOf limit (p .vertices) o)) =
       ap (λ (k : ℕ). p .spans + k) (span-count (H .id) p (d .tally) ∙ ap length spans-are) in
       λ i. record {
         objects = ap (λ (k : Progress). k .objects) z i;
-        vertices = (ap (λ (k : Progress). k .vertices) z ∙ ap (λ (k : Drawn). p .vertices + k .tally .vertices) q) i;
-        kept = (ap (λ (k : Progress). k .kept) z ∙ ap (λ (k : Drawn). p .kept + k .tally .kept) q) i;
+        vertices = (ap (λ (k : Progress). k .vertices) z ∙ ap (λ (k : Came). p .vertices + k .tally .vertices) q) i;
+        kept = (ap (λ (k : Progress). k .kept) z ∙ ap (λ (k : Came). p .kept + k .tally .kept) q) i;
         spans = (ap (λ (k : Progress). k .spans) z ∙ more) i;
-        entries = (ap (λ (k : Progress). k .entries) z ∙ ap (λ (k : Drawn). p .entries + k .entries) q) i;
+        entries = (ap (λ (k : Progress). k .entries) z ∙ ap (λ (k : Came). p .entries + k .entries) q) i;
         buffers = record {
           vertices = w .vertices i;
           normals = w .normals i;
           indices = w .indices i;
           spans = (x ∙ ap (λ (k : List Span). sets ss (5 * p .spans) (spanNumbers k)) spans-are) i;
-          account = (y ∙ ap (λ (k : Drawn). sets accounts (4 * p .objects) (accountBy k)) q) i;
+          account = (y ∙ ap (λ (k : Came). sets accounts (4 * p .objects) (accountBy k)) q) i;
           log = w .log i;
         };
       }

@@ -11,6 +11,7 @@ use Rattle.face.proofs.Draws.{drew-room, drew-none, drew-vertices, drew-normals
 use Rattle.object.specs.declared.Section.{Section}
 use Rattle.fields.specs.Fields.{sectionAt, sectionsAt}
 use Rattle.shapes.specs.Shapes.{pairs, ellipse, endFace, tubeFaces}
+use Rattle.shapes.proofs.Stages.{stages-nothing}
 use Rattle.round_sweeps.specs.Rings.{ringAbout}
 use Rattle.neighbours.proofs.Neighbours.{second-in}
 use Rattle.round_sweeps.proofs.RingFaces.{tube-points, tube-triangles, tube-drawn, ring-size, round-none, round-drawn}
@@ -29,7 +30,7 @@ first-is : (c : tie.After-ellipse Inv-loop μ-loop) → c .ellipse .result ≡ e
 first-is c = c .ellipse .ensures ∙ ap (λ (x : Section). ellipse x .ring) (c .before .section-at .ensures)
 
 returns : tie.Need-returns Inv-loop μ-loop
-returns c = let a = c .before .before .before .before .before .args in rw (round-none (a .s .now) (a .at) (a .n) (c .if1 .taken)) (drew-none _ _ _)
+returns c = let a = c .before .before .before .before .before .args in rw (round-none (a .s .now) (a .at) (a .n) (c .if1 .taken)) (stages-nothing _)
 
 loop-holds : tie.Need-loop-holds Inv-loop μ-loop
 unfolding pairs sectionsAt list

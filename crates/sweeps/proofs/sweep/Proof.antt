@@ -8,6 +8,7 @@ use Rattle.face.specs.Drawing.{drawing, Drew, Room}
 use Rattle.face.proofs.Draws.{drew-room, drew-none, drew-vertices, drew-normals, drew-indices, room-less}
 use Rattle.fields.specs.Fields.{sectionAt, sectionsAt}
 use Rattle.shapes.specs.Shapes.{pairFaces, pairs}
+use Rattle.shapes.proofs.Stages.{stages-nothing}
 use Rattle.neighbours.proofs.Neighbours.{pair-drawn, second-in}
 use Rattle.sweeps.proofs.SweepFaces.{pair-points, pair-triangles, sweep-drawn, sweep-none}
 use Rattle.sweeps.proofs.sweep.Statement.{statement}
@@ -22,7 +23,7 @@ abbrev μ-loop : tie.MeasureT-loop
 μ-loop s at n limit before vs₀ ns₀ is₀ a₀ u₀ k₀ vs ns is a u k = n - k
 
 returns : tie.Need-returns Inv-loop μ-loop
-returns c = let a = c .before .before .before .before .before .args in rw (sweep-none (a .s .now) (a .at) (a .n) (c .if1 .taken)) (drew-none _ _ _)
+returns c = let a = c .before .before .before .before .before .args in rw (sweep-none (a .s .now) (a .at) (a .n) (c .if1 .taken)) (stages-nothing _)
 
 loop-holds : tie.Need-loop-holds Inv-loop μ-loop
 unfolding pairs sectionsAt list
