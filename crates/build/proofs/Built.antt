@@ -3,7 +3,7 @@ use mathlib.Core.Path.{_≡_, refl, sym, ap, ap₂, _∙_, subst}
 use mathlib.Core.Bool.{Bool, true, false, _||_, cond}
 use mathlib.Core.List.{List}
 use Prim.Native.Nat.{ℕ, _≤_}
-use native.Mathlib.Nat.{le-trans}
+use native.Mathlib.Nat.{le-trans, lt-of-le-of-lt}
 use native.Mathlib.Omega.{arith}
 use lib.ListN.{length}
 use lib.Dec.{ltb}
@@ -22,12 +22,14 @@ use Rattle.scene_mesh.specs.Operations.{Counts, Buffers, output, countsOf, done
 use Rattle.answers.specs.Answers.{countsFrom, builtWith, roomFor}
 use Rattle.answers.proofs.Calls.{build-refused, build-accepted}
 use Rattle.room.proofs.Rooms.{noVertices, noIndices, noRecords}
-use Rattle.progress.specs.Wrote.{stored, WroteAll}
+use Rattle.progress.specs.Pass.{beginning, CanAddAll}
+use Rattle.progress.specs.Wrote.{stored, WroteAll, FitCounts}
+use Rattle.progress.proofs.Pass.Objects.{counts-fit}
 use Rattle.progress.proofs.Pass.Tails.{sets-over}
 use Rattle.scene_mesh.specs.Demand3.{LongEnough}
 use Rattle.scene_mesh.proofs.Demand3.{long-enough}
 use Rattle.most.specs.declared.Most.{Most}
-use Rattle.most.specs.Most.{numbersOf, together}
+use Rattle.most.specs.Most.{numbersOf, together, Few}
 use Rattle.most.proofs.Bounds.{most-enough}
 use Rattle.scene_most.proofs.Counts.{SumOf, parts-counts, measured-counts}
 use Rattle.build.specs.declared.Plan.{Plan}
@@ -70,7 +72,7 @@ either-false : (a b : Bool) → (a || b) ≡ false → (a ≡ false) × (b ≡ f
 either-false true b e = absurd (no e)
 either-false false b e = (refl, e)
 
-stored-over : (w b : Buffers) → length (w .vertices) ≤ length (b .vertices) → length (w .normals) ≤ length (b .normals) → length (w .indices) ≤ length (b .indices)
+pub stored-over : (w b : Buffers) → length (w .vertices) ≤ length (b .vertices) → length (w .normals) ≤ length (b .normals) → length (w .indices) ≤ length (b .indices)
     → length (w .spans) ≤ length (b .spans) → length (w .account) ≤ length (b .account) → length (w .log) ≤ length (b .log) → stored w b ≡ overlay w b
 unfolding stored overlay
 stored-over w b p q r s t u = λ i. record {
@@ -99,7 +101,7 @@ enough-room has c c′ q =
       log = ltb-false _ _ (l .1);
     }
 
-longer : {a b c : Counts} → LongEnough a b → LongEnough b c → LongEnough a c
+pub longer : {a b c : Counts} → LongEnough a b → LongEnough b c → LongEnough a c
 longer p q = record {
   vertices = le-trans (q .vertices) (p .vertices);
   normals = le-trans (q .normals) (p .normals);
@@ -108,6 +110,21 @@ longer p q = record {
   account = le-trans (q .account) (p .account);
   log = le-trans (q .log) (p .log);
 }
+
+-- what fits u32, and no more than that
+fewer : {a b : Counts} → FitCounts a → LongEnough a b → FitCounts b
+fewer f p = record {
+  vertices = lt-of-le-of-lt (p .vertices) (f .vertices);
+  normals = lt-of-le-of-lt (p .normals) (f .normals);
+  indices = lt-of-le-of-lt (p .indices) (f .indices);
+  spans = lt-of-le-of-lt (p .spans) (f .spans);
+  account = lt-of-le-of-lt (p .account) (f .account);
+  log = lt-of-le-of-lt (p .log) (f .log);
+}
+
+pub few-fit : {a b : Most} {n : ℕ} → Few a 16777216 65536 → Few b 16777216 65536 → n ≤ 65536 → FitCounts (numbersOf (together a b) n)
+few-fit p q h =
+    record { vertices = omega (arith, p .vertices, q .vertices); normals = omega (arith, p .vertices, q .vertices); indices = omega (arith, p .triangles, q .triangles); spans = omega (arith, p .spans, q .spans); account = omega arith; log = omega (arith, p .entries, q .entries) }
 
 -- all objects written into buffers with room for them
 built-whole : (os : List Object) (b : Buffers) (c : Counted) → countsFrom c ≡ countsOf (output minArea os) → (b′ : Buffers) → LongEnough (countsOf b) (countsOf (output minArea os)) → b′ ≡ stored (output minArea os) b
@@ -121,8 +138,8 @@ built-whole os b c e b′ l r =
 -- ---- the plan by counts
 
 module _ (has : Counts) (n : ℕ) (c : Counted) {needs : Counts} (e : countsFrom c ≡ needs) where
-  pub plan-complete : (c′ : Counted) → Complete c′ ≡ roomFor has c → PlanBy has needs n (Write n)
-  plan-complete c′ q = (refl, subst (LongEnough has) e (enough-room has c c′ q))
+  pub plan-complete : FitCounts needs → (c′ : Counted) → Complete c′ ≡ roomFor has c → PlanBy has needs n (Write n)
+  plan-complete f c′ q = (refl, subst (LongEnough has) e (enough-room has c c′ q), f)
 
   -- the tests of `roomFor` are those of `tooShort`
   pub plan-short : (a : BuiltAnswer) → isComplete a ≡ false → a ≡ roomFor has c → PlanBy has needs n (Refuse a)
@@ -139,7 +156,8 @@ module _ (s : List ℕ) (has : Counts) where
     -- with room for both parts, each measured or not
     pub plan-bounded : (others lids : Bool) → SumOf s false others a → SumOf s true lids b → {r : Plan} {k : ℕ} → r ≡ Write k → PlanBy has (numbersOf (together a b) n) n r → PlanHolds s has (Write n)
     plan-bounded others lids p q is d =
-        (h, λ os e. longer (subst (LongEnough has) (parts-counts s n h os e others lids p q) (subst (PlanBy has (numbersOf (together a b) n) n) is d .1)) (most-enough minArea others lids os))
+        let x = subst (PlanBy has (numbersOf (together a b) n) n) is d in
+        (h, λ os e. let most = most-enough minArea others lids os in (longer (subst (LongEnough has) (parts-counts s n h os e others lids p q) (x .1)) most, fewer (subst FitCounts (parts-counts s n h os e others lids p q) (x .2)) most))
 
     -- with both measured
     pub plan-measured : SumOf s false true a → SumOf s true true b → (r : Plan) → PlanBy has (numbersOf (together a b) n) n r → PlanHolds s has r
@@ -147,10 +165,14 @@ module _ (s : List ℕ) (has : Counts) where
     plan-measured p q (Refuse x) d =
         λ lent f. build-accepted s lent n (builtWith x lent) h (λ os e. d (output minArea os) lent ∙ ap₂ (λ (x y : Counts). buildOutput (output minArea os) lent (tooShort x y)) (sym f) (measured-counts s n h os e p q))
     plan-measured p q (Write k) d =
-        (subst (λ (m : ℕ). Accepted m ≡ checkedOf (scene s)) (sym (d .0)) h, λ os e. subst (LongEnough has) (measured-counts s n h os e p q) (d .1))
+        (subst (λ (m : ℕ). Accepted m ≡ checkedOf (scene s)) (sym (d .0)) h, λ os e. (subst (LongEnough has) (measured-counts s n h os e p q) (d .1), subst FitCounts (measured-counts s n h os e p q) (d .2)))
+
+  -- the planned objects fit the program's counts
+  pub can-write : (n : ℕ) (limit : Float) → PlanHolds s has (Write n) → limit ≡ minArea → CanAddAll limit s beginning
+  can-write n limit p l = λ os b e. counts-fit limit os b (subst (λ (x : Float). FitCounts (countsOf (output x os))) (sym l) (p .1 os e .1))
 
   pub built-planned : (n : ℕ) (limit : Float) (b b′ : Buffers) (c : Counted) → PlanHolds s has (Write n) → countsOf b ≡ has → limit ≡ minArea
       → ((os : List Object) → scene s ≡ accepted os → WroteAll limit os c b b′) → builtWith (Complete c) b′ ≡ build s b
   built-planned n limit b b′ c p e l k =
       build-accepted s b n (builtWith (Complete c) b′) (p .0)
-      (λ os q. let w = subst (λ (x : Float). WroteAll x os c b b′) l (k os q) in built-whole os b c (w .counts) b′ (subst (λ (x : Counts). LongEnough x (countsOf (output minArea os))) (sym e) (p .1 os q)) (w .buffers))
+      (λ os q. let w = subst (λ (x : Float). WroteAll x os c b b′) l (k os q) in built-whole os b c (w .counts) b′ (subst (λ (x : Counts). LongEnough x (countsOf (output minArea os))) (sym e) (p .1 os q .0)) (w .buffers))

@@ -7,9 +7,10 @@ ghost use Rattle.scene.specs.declared.scenes.Checked.the-variants.{Accepted};
 ghost use Rattle.scene.specs.Scene.{scene, accepted};
 ghost use Rattle.scene.specs.Answers.{checkedOf};
 ghost use Rattle.scene_mesh.specs.Operations.{lent};
-ghost use Rattle.progress.specs.Pass.{CanAdd, AddedObject};
+ghost use Rattle.progress.specs.Pass.{beginning, CanAdd, AddedObject, CanAddAll, AddedAll};
 ghost use Rattle.progress.specs.Wrote.{WroteAll};
 use answers::Counted;
+use progress::BEGINNING;
 use progress::Progress;
 use progress::advance;
 use progress::count_numbers;
@@ -29,7 +30,7 @@ fn object_at(
     account: &mut [u32],
     log: &mut [u32],
 ) -> Progress
-    requires { ⌜ CanAdd (now s) p ⌝ }
+    requires { ⌜ CanAdd limit (now s) p ⌝ }
     ensures { λ r. ⌜ AddedObject limit (now (s .entry)) p r (lent (now (vs .entry)) (now (ns .entry)) (now (is .entry)) (now (spans .entry)) (now (account .entry)) (now (log .entry))) (lent (now (vs .exit)) (now (ns .exit)) (now (is .exit)) (now (spans .exit)) (now (account .exit)) (now (log .exit))) ⌝ }
 {
     let h = headers::header_at(s, p.at);
@@ -57,6 +58,37 @@ fn object_at(
     advance(p, h.size, d)
 }
 
+// All n objects of a scene written behind those before it, as far as the buffers reach.
+pub fn write_behind(
+    s: &[u8],
+    n: u32,
+    limit: f32,
+    from: Progress,
+    vs: &mut [f32],
+    ns: &mut [f32],
+    is: &mut [u32],
+    spans: &mut [u32],
+    account: &mut [u32],
+    log: &mut [u32],
+) -> Progress
+    requires { ⌜ (Accepted n ≡ checkedOf (scene (now s))) × CanAddAll limit (now s) from ⌝ }
+    ensures { λ r. ⌜ ((os : List Object) → scene (now (s .entry)) ≡ accepted os → AddedAll limit os from r (lent (now (vs .entry)) (now (ns .entry)) (now (is .entry)) (now (spans .entry)) (now (account .entry)) (now (log .entry))) (lent (now (vs .exit)) (now (ns .exit)) (now (is .exit)) (now (spans .exit)) (now (account .exit)) (now (log .exit)))) ⌝ }
+{
+    let end = from.objects + n;
+    let mut p = Progress {
+        at: 0,
+        objects: from.objects,
+        vertices: from.vertices,
+        kept: from.kept,
+        spans: from.spans,
+        entries: from.entries,
+    };
+    while p.objects < end {
+        p = object_at(s, limit, p, vs, ns, is, spans, account, log);
+    }
+    p
+}
+
 // All n objects written, as far as the buffers reach, and counted.
 pub fn write_objects(
     s: &[u8],
@@ -69,19 +101,8 @@ pub fn write_objects(
     account: &mut [u32],
     log: &mut [u32],
 ) -> Counted
-    requires { ⌜ Accepted n ≡ checkedOf (scene (now s)) ⌝ }
+    requires { ⌜ (Accepted n ≡ checkedOf (scene (now s))) × CanAddAll limit (now s) beginning ⌝ }
     ensures { λ r. ⌜ ((os : List Object) → scene (now (s .entry)) ≡ accepted os → WroteAll limit os r (lent (now (vs .entry)) (now (ns .entry)) (now (is .entry)) (now (spans .entry)) (now (account .entry)) (now (log .entry))) (lent (now (vs .exit)) (now (ns .exit)) (now (is .exit)) (now (spans .exit)) (now (account .exit)) (now (log .exit)))) ⌝ }
 {
-    let mut p = Progress {
-        at: 0,
-        objects: 0,
-        vertices: 0,
-        kept: 0,
-        spans: 0,
-        entries: 0,
-    };
-    while p.objects < n {
-        p = object_at(s, limit, p, vs, ns, is, spans, account, log);
-    }
-    count_numbers(p)
+    count_numbers(write_behind(s, n, limit, BEGINNING, vs, ns, is, spans, account, log))
 }

@@ -2,7 +2,7 @@
 ghost use mathlib.Core.Path.{_≡_};
 ghost use mathlib.Core.Bool.{cond};
 ghost use mathlib.Core.List.{List};
-ghost use Prim.Native.Nat.{ℕ, _+_, _*_, _≤_};
+ghost use Prim.Native.Nat.{ℕ, _+_, _*_, _≤_, _<_, _^_};
 ghost use lib.ListN.{length};
 ghost use Rattle.object.specs.Object.{solid, sweep, roundSweep};
 ghost use Rattle.fields.specs.Fields.{pointAt, orientationAt, sectionsAt};
@@ -34,7 +34,7 @@ fn draw_sections(
     ns: &mut [f32],
     is: &mut [u32],
 ) -> Drawn
-    requires { ⌜ (at + 48 * n ≤ length (now s)) × (n ≤ 4096) × (before ≤ 33554432) ⌝ }
+    requires { ⌜ (at + 48 * n ≤ length (now s)) × (n ≤ 4096) × (3 * before < 2 ^ 32) ⌝ }
     ensures { λ r. ⌜ ((log : List ℕ) → DrewObject limit (cond round (roundSweep (sectionsAt (now (s .entry)) n at)) (sweep (sectionsAt (now (s .entry)) n at))) before (now (vs .entry)) (now (ns .entry)) (now (is .entry)) log r (now (vs .exit)) (now (ns .exit)) (now (is .exit)) log) ⌝ }
 {
     if round {

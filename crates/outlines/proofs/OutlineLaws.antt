@@ -1,7 +1,7 @@
 -- The faces and the price of an outline from what its parts come to. Assumes nothing.
 use mathlib.Core.Path.{_≡_, refl, sym, ap, ap₂, subst, subst₂, _∙_}
 use mathlib.Core.Bool.{Bool, true, false, cond, true≢false, false≢true}
-use Prim.Native.Nat.{ℕ, _+_, _-_, _*_, _≤_}
+use Prim.Native.Nat.{ℕ, _+_, _-_, _*_, _≤_, _<_, _^_}
 use native.Mathlib.Omega.{arith}
 use mathlib.Core.List.{List, [], _∷_, _++_, map}
 use lib.ListN.{length}
@@ -77,7 +77,7 @@ module _ (s : List ℕ) (i outer holes : ℕ) where
   corners-all = omega (arith, corners-length s outer (cornersOf i holes), sum-lengths holesOf, ap total (holes-size s (countsAt s holes (i + 4)) (cornersOf i holes + 24 * outer)))
 
   -- walls leave room for the lid and the floor
-  lid-room : {limit : Float} {before : ℕ} {vs ns : List Float} {is : List ℕ} {d : Drawing} (closed : Bool) (lid : Vector) → before ≤ 33554432 → Placed s i outer holes
+  lid-room : {limit : Float} {before : ℕ} {vs ns : List Float} {is : List ℕ} {d : Drawing} (closed : Bool) (lid : Vector) → 3 * before < 2 ^ 32 → Placed s i outer holes
       → Drew limit (wallsOf closed lid) before (drawing (tally 0 0 0) vs ns is) d → Room before (d .tally) 1024 1224
   lid-room {limit} {before} closed lid h placed p =
       let start : Room before (tally 0 0 0) 3072 2248 = record { vertices = omega arith; kept = omega arith; thin = omega arith } in
@@ -166,7 +166,7 @@ module _ (s : List ℕ) (i : ℕ) (closed : Bool) (outer holes : ℕ) {o : Outli
       subst (λ (o : OutlineAt). o .high ≡ hasHeight (cornersAt s (o .n) (o .at))) (sym e)
       (ap (λ (b : Bool). cond b (hasHeight (cornersAt s (outer + holeCorners s i holes) (cornersOf i holes))) false) c)
 
-  pub room-in : {limit : Float} {before : ℕ} {vs ns : List Float} {is : List ℕ} {d : Drawing} → before ≤ 33554432 → Placed s i outer holes
+  pub room-in : {limit : Float} {before : ℕ} {vs ns : List Float} {is : List ℕ} {d : Drawing} → 3 * before < 2 ^ 32 → Placed s i outer holes
       → WallsDrew s closed o limit before (drawing (tally 0 0 0) vs ns is) d → Room before (d .tally) 1024 1224
   room-in {limit} {before} {vs} {ns} {is} {d} h placed p =
       lid-room s i outer holes closed _ h placed (subst (λ (o : OutlineAt). WallsDrew s closed o limit before (drawing (tally 0 0 0) vs ns is) d) e p)

@@ -2,7 +2,7 @@
 ghost use mathlib.Core.Path.{_≡_};
 ghost use mathlib.Core.Bool.{cond};
 ghost use mathlib.Core.List.{_++_};
-ghost use Prim.Native.Nat.{_+_, _-_, _*_, _≤_};
+ghost use Prim.Native.Nat.{_+_, _-_, _*_, _≤_, _<_, _^_};
 ghost use Rattle.lists.specs.Loops.{join};
 ghost use Rattle.vectors.specs.Vectors.{zeroV};
 ghost use Rattle.fields.specs.Fields.{cornersAt, countsAt, holesAt};
@@ -65,7 +65,7 @@ fn all_walls(
     ns: &mut [f32],
     is: &mut [u32],
 ) -> Tally
-    requires { ⌜ Measured (now s) o × (before ≤ 33554432) ⌝ }
+    requires { ⌜ Measured (now s) o × (3 * before < 2 ^ 32) ⌝ }
     ensures { λ r. ⌜ Drew limit (outerWalls closed (cornersAt (now (s .entry)) (o .outer) (o .at)) (o .lid) ++ join (holeWalls (o .lid)) (holesAt (now (s .entry)) (countsAt (now (s .entry)) (o .holes) (o .i + 4)) (o .at + 24 * o .outer))) before (drawing (tally 0 0 0) (now (vs .entry)) (now (ns .entry)) (now (is .entry))) (drawing r (now (vs .exit)) (now (ns .exit)) (now (is .exit))) ⌝ }
 {
     let n = o.outer as usize;
@@ -146,7 +146,7 @@ pub fn outline(
     is: &mut [u32],
     log: &mut [u32],
 ) -> Drawn
-    requires { ⌜ Placed (now s) i outer holes × (before ≤ 33554432) ⌝ }
+    requires { ⌜ Placed (now s) i outer holes × (3 * before < 2 ^ 32) ⌝ }
     ensures { λ r. ⌜ DrewObject limit (outlineShape (now (s .entry)) i closed outer holes) before (now (vs .entry)) (now (ns .entry)) (now (is .entry)) (now (log .entry)) r (now (vs .exit)) (now (ns .exit)) (now (is .exit)) (now (log .exit)) ⌝ }
 {
     let o = outline_at(s, i, closed, outer, holes);

@@ -10,6 +10,7 @@ use lib.Ieee.{Float}
 use Rattle.lists.specs.Loops.{sumOf}
 use Rattle.coords.specs.Buffers.{vertexNumbers, normalNumbers}
 use Rattle.object.specs.Object.{Shape, Object}
+use Rattle.scene.specs.Scene.{scene, accepted}
 use Rattle.scene.specs.Headers.{headerAt, objectOf, Limits}
 use Rattle.face.specs.declared.Tally.{Tally}
 use Rattle.face.specs.Faces.{writeFaces}
@@ -23,6 +24,10 @@ use Rattle.progress.specs.declared.Progress.{Progress}
 use Rattle.progress.specs.declared.Starts.{Starts}
 use Rattle.scene_mesh.specs.Mesh.{Span, keptBy, thinBy, accountOf, pieceOf, spanOf, meshFrom, accountsOf, logsOf, spanNumbers, accountRecord, accountNumbers}
 use Rattle.scene_mesh.specs.Operations.{Buffers, lent}
+
+-- before the first object
+abbrev pub beginning : Progress
+beginning = record { at = 0; objects = 0; vertices = 0; kept = 0; spans = 0; entries = 0 }
 
 -- where place n starts in a buffer of len numbers: its end where that is past it
 unfoldable pub startOf : ℕ → ℕ → ℕ
@@ -136,29 +141,30 @@ withObjects limit os st =
           (sets (b .account) (4 * st .objects) (accountNumbers (accountsOf limit os))) (sets (b .log) (4 * st .entries) (logNumbers (logsOf os)));
     }
 
--- no more has been counted than the bytes of the records before allow
-pub record Bounded (p : Progress) : Type 0 where
-  pub vertices : p .vertices ≤ 2 * p .at
-  pub kept : p .kept ≤ 3 * p .at
-  pub entries : p .entries ≤ 2 * p .at
-  pub spans : p .spans ≤ p .objects
+-- what the counted objects take in each buffer fits the program's counts
+pub record Fits (st : Pass) : Type 0 where
+  pub vertices : 3 * st .vertices < 2 ^ 32
+  pub kept : 3 * st .kept < 2 ^ 32
+  pub spans : 5 * st .spans < 2 ^ 32
+  pub objects : 4 * st .objects < 2 ^ 32
+  pub entries : 4 * st .entries < 2 ^ 32
 
--- the next record is one of an accepted scene
-pub record CanAdd (s : List ℕ) (p : Progress) : Type 0 where
+-- the next record is one of an accepted scene, and its object fits behind those before it
+pub record CanAdd (limit : Float) (s : List ℕ) (p : Progress) : Type 0 where
   pub limits : Limits s (p .at + 5) (headerAt s (p .at) .body)
   pub inside : p .at + headerAt s (p .at) .size ≤ length s
   pub short : length s ≤ 16777216
-  pub objects : p .objects < 65536
-  pub bounded : Bounded p
+  pub fits : (b : Buffers) → Fits (withObject limit (objectOf s (p .at) (headerAt s (p .at))) (passOf p b))
 
 -- the object of the next record, added
 pub record AddedObject (limit : Float) (s : List ℕ) (p p′ : Progress) (b b′ : Buffers) : Type 0 where
   pub next : p′ .at ≡ p .at + headerAt s (p .at) .size
   pub pass : passOf p′ b′ ≡ withObject limit (objectOf s (p .at) (headerAt s (p .at))) (passOf p b)
 
--- all objects, added
-pub record AddedAll (limit : Float) (os : List Object) (p : Progress) (b b′ : Buffers) : Type 0 where
-  pub pass : passOf p b′ ≡ withObjects limit os (begun b)
-  pub place : p .at ≤ 16777216
-  pub objects : p .objects ≤ 65536
-  pub bounded : Bounded p
+-- the objects of a scene fit behind those before it
+abbrev pub CanAddAll : Float → List ℕ → Progress → Type 0
+CanAddAll limit s p = (os : List Object) (b : Buffers) → scene s ≡ accepted os → Fits (withObjects limit os (passOf p b))
+
+-- all objects of a scene, added behind those before it
+pub record AddedAll (limit : Float) (os : List Object) (p p′ : Progress) (b b′ : Buffers) : Type 0 where
+  pub pass : passOf p′ b′ ≡ withObjects limit os (passOf p b)

@@ -1,6 +1,6 @@
 -- All objects of a scene written and counted. Definitions only.
 use mathlib.Core.Path.{_≡_}
-use Prim.Native.Nat.{_*_}
+use Prim.Native.Nat.{_*_, _<_, _^_}
 use mathlib.Core.List.{List}
 use lib.Seq.{sets}
 use lib.Ieee.{Float}
@@ -8,7 +8,7 @@ use Rattle.object.specs.Object.{Object}
 use Rattle.answers.specs.declared.Counted.{Counted}
 use Rattle.progress.specs.declared.Progress.{Progress}
 use Rattle.answers.specs.Answers.{countsFrom}
-use Rattle.scene_mesh.specs.Operations.{Buffers, output, countsOf}
+use Rattle.scene_mesh.specs.Operations.{Counts, Buffers, output, countsOf}
 
 -- the numbers that the counted objects take in each buffer
 abbrev pub countedBy : Progress → Counted
@@ -24,3 +24,12 @@ stored w b =
 pub record WroteAll (limit : Float) (os : List Object) (c : Counted) (b b′ : Buffers) : Type 0 where
   pub counts : countsFrom c ≡ countsOf (output limit os)
   pub buffers : b′ ≡ stored (output limit os) b
+
+-- every count fits u32
+pub record FitCounts (c : Counts) : Type 0 where
+  pub vertices : c .vertices < 2 ^ 32
+  pub normals : c .normals < 2 ^ 32
+  pub indices : c .indices < 2 ^ 32
+  pub spans : c .spans < 2 ^ 32
+  pub account : c .account < 2 ^ 32
+  pub log : c .log < 2 ^ 32

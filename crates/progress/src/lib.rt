@@ -16,6 +16,15 @@ pub struct Progress {
     pub entries: u32,
 }
 
+pub const BEGINNING: Progress = Progress {
+    at: 0,
+    objects: 0,
+    vertices: 0,
+    kept: 0,
+    spans: 0,
+    entries: 0,
+};
+
 // The places in the lent buffers from which an object's tails are lent on.
 pub struct Starts {
     pub vertices: usize,

@@ -63,7 +63,7 @@ module _ {lids exact : Bool} {s : List ℕ} {n : ℕ} {m : Most} {at k : ℕ} (w
   module _ (l : k < n) where
     can-draw : CanDraw s (at + 5) (headerAt s at .body) 0
     unfolding headerAt
-    can-draw = record { limits = walk-limits (w .walking) l; inside = omega (arith, walk-inside (w .walking) l, trailer-inside s n); short = w .known .short; few = zero-le }
+    can-draw = record { limits = walk-limits (w .walking) l; inside = omega (arith, walk-inside (w .walking) l, trailer-inside s n); short = w .known .short; few = omega arith }
 
     few-next : Few (bound (headerAt s at)) (headerAt s at .size) 1
     unfolding headerAt

@@ -1,6 +1,6 @@
 -- What drawing one object comes to, from its record's place in the scene's bytes: the contract of `draw`. Definitions only.
 use mathlib.Core.Path.{_≡_}
-use Prim.Native.Nat.{ℕ, _+_, _≤_}
+use Prim.Native.Nat.{ℕ, _+_, _*_, _≤_, _<_, _^_}
 use mathlib.Core.List.{List}
 use lib.ListN.{length}
 use lib.Seq.{sets}
@@ -15,12 +15,12 @@ use Rattle.shapes.specs.Shapes.{logOf}
 use Rattle.shapes.specs.Stages.{stagesOf, firstPart, DrewStages, lastOf}
 use Rattle.shapes.specs.Price.{offered}
 
--- The body at place i, behind its record's kind and id, is one of an accepted scene, and no more vertices lie before it than such a scene has.
+-- The body at place i, behind its record's kind and id, is one of an accepted scene, and no more vertices lie before it than a count of their numbers can tell.
 pub record CanDraw (s : List ℕ) (i : ℕ) (body : Body) (before : ℕ) : Type 0 where
   pub limits : Limits s i body
   pub inside : i + bodySize s i body ≤ length s
   pub short : length s ≤ 16777216
-  pub few : before ≤ 33554432
+  pub few : 3 * before < 2 ^ 32
 
 -- The shape drawn from the start of the lent buffers, its log written from the start of the lent log. A store past a buffer's end is left out.
 pub record DrewObject (limit : Float) (sh : Shape) (before : ℕ) (vs ns : List Float) (is ls : List ℕ) (r : Drawn) (vs′ ns′ : List Float) (is′ ls′ : List ℕ) : Type 0 where

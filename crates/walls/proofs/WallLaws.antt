@@ -1,7 +1,7 @@
 -- The walls of an outline, one after the other. Assumes nothing.
 use mathlib.Core.Path.{_≡_, sym, ap, ap₂, _∙_, subst}
 use mathlib.Core.Bool.{Bool, true, false}
-use Prim.Native.Nat.{ℕ, suc, _+_, _-_, _*_, _<_, _≤_}
+use Prim.Native.Nat.{ℕ, suc, _+_, _-_, _*_, _<_, _≤_, _^_}
 use native.Mathlib.Omega.{arith}
 use mathlib.Core.List.{List, [], _∷_}
 use lib.ListN.{length, getD}
@@ -56,5 +56,5 @@ outer-room s n at true lid m r room p h = let cs = cornersAt s n at in walls-roo
 outer-room s n at false lid m r room p h = let cs = cornersAt s n at in walls-room cs zeroV (length cs - 1) m r room p (omega (arith, corners-length s n at))
 
 -- with nothing drawn there is room for m corners
-pub start-room : (before m : ℕ) → before ≤ 33554432 → m ≤ 512 → Room before (tally 0 0 0) (4 * m) (2 * m)
+pub start-room : (before m : ℕ) → 3 * before < 2 ^ 32 → m ≤ 512 → Room before (tally 0 0 0) (4 * m) (2 * m)
 start-room before m h g = record { vertices = omega arith; kept = omega arith; thin = omega arith }

@@ -2,14 +2,15 @@
 use mathlib.Core.Path.{refl}
 use borrow.Author.Needs.{needs}
 use Rattle.scene_mesh.specs.Operations.{lent, countsOf}
-use Rattle.build.proofs.Built.{built-planned}
+use Rattle.build.proofs.Built.{can-write, built-planned}
 use Rattle.build.proofs.build.Statement.{statement}
 use Rattle.build.proofs.build.Tie as tie
 
 write-objects-requires : tie.Need-write-objects-requires
 write-objects-requires c κs =
     let c₁ = c .before .before .before .before .before .before .before .before in
-    (rw (c₁ .n .given .1) at (c₁ .before .before .plan-scene .ensures)) .0
+    let p = rw (c₁ .n .given .1) at (c₁ .before .before .plan-scene .ensures) in
+    (p .0, can-write _ _ _ _ p (c .before .before .before .before .before .before .min-area .ensures))
 
 returns : tie.Need-returns
 unfolding countsOf

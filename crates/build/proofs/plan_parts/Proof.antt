@@ -10,7 +10,7 @@ use borrow.Author.Needs.{needs}
 use Rattle.answers.proofs.BuiltAnswer.{the-type}
 use Rattle.answers.specs.declared.BuiltAnswer.{BuiltAnswer}
 use Rattle.answers.specs.declared.BuiltAnswer.the-variants.{Refused, ShortVertices, ShortIndices, ShortRecords, Complete}
-use Rattle.build.proofs.Built.{isComplete, plan-complete, plan-short}
+use Rattle.build.proofs.Built.{isComplete, few-fit, plan-complete, plan-short}
 use Rattle.build.proofs.plan_parts.Statement.{statement}
 use Rattle.build.proofs.plan_parts.Tie as tie
 
@@ -26,7 +26,9 @@ not-complete (Complete c) h = absurd (none h)
     none q = ⊎-elim (λ e. omega arith) (⊎-elim (λ e. omega arith) (⊎-elim (λ e. omega arith) (λ e. omega arith))) q
 
 returns : tie.Need-returns
-returns c = plan-complete _ _ _ (c .before .before .before .bound-counts .ensures) _ (sym (c .enum-told .given .1) ∙ c .before .before .room .ensures)
+returns c =
+    let p = c .before .before .before .before .pre in
+    plan-complete _ _ _ (c .before .before .before .bound-counts .ensures) (few-fit (p .0) (p .1) (p .2)) _ (sym (c .enum-told .given .1) ∙ c .before .before .room .ensures)
 
 returns-2 : tie.Need-returns-2
 returns-2 c = plan-short _ (c .before .before .before .args .n) _ (c .before .before .bound-counts .ensures) (c .before .room .result) (not-complete (c .before .room .result) (c .match .keys2)) (c .before .room .ensures)

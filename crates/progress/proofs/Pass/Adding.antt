@@ -2,11 +2,11 @@
 use mathlib.Core.Path.{_≡_, refl, sym, ap, ap₂, _∙_, subst}
 use mathlib.Core.Bool.{Bool, true, false, cond}
 use mathlib.Core.List.{List, [], _∷_}
-use Prim.Native.Nat.{ℕ, zero, suc, _+_, _*_, _≤_}
+use Prim.Native.Nat.{ℕ, zero, suc, _+_, _*_}
 use native.Mathlib.Nat.{add-zero, zero-add}
 use native.Mathlib.Omega.{arith}
 use lib.Dec.{eqb}
-use lib.ListN.{length, getD}
+use lib.ListN.{length}
 use lib.Seq.{sets}
 use lib.Ieee.{Float}
 use borrow.Author.Tests.{eq-eqb, ne-eqb}
@@ -14,12 +14,10 @@ use Rattle.lists.specs.Loops.{sumOf}
 use Rattle.coords.specs.Buffers.{vertexNumbers, normalNumbers}
 use Rattle.object.specs.Object.{Shape, Object}
 use Rattle.scene.specs.declared.headers.Header.{Header}
-use Rattle.scene.specs.Headers.{bodyAt, headerAt, shapeOf, objectOf}
+use Rattle.scene.specs.Headers.{headerAt, shapeOf, objectOf}
 use Rattle.face.specs.declared.Tally.{Tally}
 use Rattle.face.specs.Faces.{Face, Piece, thinIn, keptOf, writeFaces}
 use Rattle.face.specs.Drawing.{tally, Drawing, drawing, counted, drawn}
-use Rattle.face.proofs.Counts.{faces-account}
-use Rattle.face.proofs.Draws.{vertices-most}
 use Rattle.lid.specs.Log.{logNumbers}
 use Rattle.shapes.specs.declared.Drawn.{Drawn}
 use Rattle.shapes.specs.Drawn.{CanDraw, DrewObject}
@@ -27,11 +25,10 @@ use Rattle.shapes.specs.Shapes.{facesOf, logOf}
 use Rattle.shapes.specs.Price.{offered}
 use Rattle.shapes.specs.Stages.{lastOf}
 use Rattle.shapes.proofs.Stages.{stages-faces}
-use Rattle.shapes.proofs.Sizes.{Sized, body-sized}
 use Rattle.progress.specs.declared.Progress.{Progress}
 use Rattle.scene_mesh.specs.Operations.{lent}
 use Rattle.scene_mesh.specs.Mesh.{Span, keptBy, thinBy, accountOf, pieceOf, spanOf, spanNumbers}
-use Rattle.progress.specs.Pass.{startOf, spanBy, Came, cameTo, accountBy, spansMore, advanced, CanAdvance, drawnOf, DrewBehind, passOf, withObject, CanAdd, AddedObject}
+use Rattle.progress.specs.Pass.{startOf, spanBy, Came, cameTo, accountBy, spansMore, advanced, CanAdvance, drawnOf, DrewBehind, passOf, withObject, Fits, CanAdd, AddedObject}
 use Rattle.scene_mesh.proofs.Demand3.Spans.{piece-size}
 use Rattle.progress.proofs.Pass.Tails.{tailOf, backOf, lent-back}
 
@@ -83,53 +80,36 @@ module _ (limit : Float) (sh : Shape) (p : Progress) (vs ns : List Float) (is ls
 
 -- ---- all of it fits
 
--- what is counted of a shape whose record has `size` bytes
-pub record AtMost (size v k e : ℕ) : Type 0 where
-  pub vertices : v ≤ 2 * size
-  pub kept : k ≤ 3 * size
-  pub entries : e ≤ 2 * size
-
-pub shape-most : (limit : Float) (v size : ℕ) (sh : Shape) → Sized size sh → AtMost size (length (writeFaces limit v (facesOf sh) .vertices)) (keptBy limit sh) (length (logOf sh))
-unfolding keptBy
-shape-most limit v size sh z =
-    record { vertices = omega (arith, vertices-most limit v (facesOf sh), z .points); kept = omega (arith, faces-account limit (facesOf sh), z .triangles); entries = z .entries }
-
-module _ {s : List ℕ} {p : Progress} (a : CanAdd s p) where
-  pub next-sized : Sized (headerAt s (p .at) .size) (shapeOf s (p .at + 5) (headerAt s (p .at) .body))
-  unfolding headerAt
-  next-sized = body-sized s (p .at + 5) (bodyAt s (p .at + 5) (getD s (p .at) 0)) (a .limits)
+module _ {limit : Float} {s : List ℕ} {p : Progress} (a : CanAdd limit s p) where
+  -- what the next object counts to
+  next-fits : Fits (withObject limit (objectOf s (p .at) (headerAt s (p .at))) (passOf p (lent [] [] [] [] [] [])))
+  next-fits = a .fits (lent [] [] [] [] [] [])
 
   can-draw-next : CanDraw s (p .at + 5) (headerAt s (p .at) .body) (p .vertices)
-  unfolding headerAt
+  unfolding headerAt withObject
   can-draw-next =
       let i = a .inside in
-      let n = a .short in
-      let v = a .bounded .vertices in
+      let v = next-fits .vertices in
       record { limits = a .limits; inside = omega arith; short = a .short; few = omega arith }
 
   module _ {h : Header} (e : h ≡ headerAt s (p .at)) where
     pub can-draw : CanDraw s (p .at + 5) (h .body) (p .vertices)
     can-draw = subst (λ (x : Header). CanDraw s (p .at + 5) (x .body) (p .vertices)) (sym e) can-draw-next
 
-    pub can-advance : (limit : Float) (d : Came) → d ≡ drawnOf limit (p .vertices) (shapeOf s (p .at + 5) (h .body)) → CanAdvance p (h .size) d
-    unfolding drawnOf
-    can-advance limit d q =
-        let H = headerAt s (p .at) in
+    pub can-advance : (d : Came) → d ≡ drawnOf limit (p .vertices) (shapeOf s (p .at + 5) (h .body)) → CanAdvance p (h .size) d
+    unfolding drawnOf withObject pieceOf
+    can-advance d q =
         let r = subst (λ (x : Header). d ≡ drawnOf limit (p .vertices) (shapeOf s (p .at + 5) (x .body))) e q in
-        let m = shape-most limit (p .vertices) (H .size) (shapeOf s (p .at + 5) (H .body)) next-sized in
         let x = ap (λ (x : Came). x .tally .vertices) r in
         let y = ap (λ (x : Came). x .tally .kept) r in
         let z = ap (λ (x : Came). x .entries) r in
-        let mv = m .vertices in
-        let mk = m .kept in
-        let me = m .entries in
         let i = a .inside in
         let n = a .short in
-        let o = a .objects in
-        let v = a .bounded .vertices in
-        let k = a .bounded .kept in
-        let l = a .bounded .entries in
-        let ss = a .bounded .spans in
+        let v = next-fits .vertices in
+        let k = next-fits .kept in
+        let l = next-fits .entries in
+        let ss = next-fits .spans in
+        let o = next-fits .objects in
         subst (λ (x : Header). CanAdvance p (x .size) d) (sym e)
         (record { at = omega arith; objects = omega arith; vertices = omega arith; kept = omega arith; spans = omega arith; entries = omega arith })
 
@@ -199,11 +179,3 @@ module _ (limit : Float) (s : List ℕ) (p : Progress) (vs ns : List Float) (is 
             added-by e (subst (λ (k : Header). DrewBehind limit (shapeOf s (p .at + 5) (k .body)) p d vs ns is ls vs′ ns′ is′ ls′) e w)
             (x ∙ ap (λ (k : Header). sets ss (5 * p .spans) (spanNumbers (spanBy (k .id) p (d .tally)))) e) y z;
       }
-
-pub span-most : (limit : Float) (p : Progress) (o : Object) → length (spanOf (o .id) (p .vertices) (3 * p .kept) (pieceOf limit (p .vertices) o)) ≤ 1
-span-most limit p o =
-    subst (λ (n : ℕ). n ≤ 1) (span-count (o .id) p (drawnOf limit (p .vertices) (o .shape) .tally) ∙ ap length (span-is limit p o)) (at-most-one (eqb (drawnOf limit (p .vertices) (o .shape) .tally .kept) 0))
-  where
-    at-most-one : (b : Bool) → cond b 0 1 ≤ 1
-    at-most-one true = omega arith
-    at-most-one false = omega arith

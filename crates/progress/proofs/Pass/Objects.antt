@@ -1,7 +1,7 @@
 -- Objects added one behind the other are all of them added; what they count to. Assumes nothing.
-use mathlib.Core.Path.{_≡_, refl, ap, _∙_}
+use mathlib.Core.Path.{_≡_, refl, sym, ap, _∙_, subst}
 use mathlib.Core.List.{List, [], _∷_, _++_}
-use Prim.Native.Nat.{ℕ, suc, _+_, _*_, _<_}
+use Prim.Native.Nat.{ℕ, suc, _+_, _*_, _<_, _^_}
 use native.Mathlib.Nat.{zero-add, add-zero, add-assoc}
 use native.Mathlib.Omega.{arith}
 use lib.ListN.{length, length-append}
@@ -16,8 +16,8 @@ use Rattle.shapes.specs.Shapes.{logOf}
 use Rattle.progress.specs.declared.Progress.{Progress}
 use Rattle.scene_mesh.specs.Mesh.{Mesh, keptBy, accountOf, pieceOf, spanOf, addPiece, meshFrom, meshOf, accountsOf, logsOf, spanRecord, spanNumbers, accountRecord, accountNumbers}
 use Rattle.scene_mesh.specs.Operations.{Buffers, lent, output, countsOf}
-use Rattle.progress.specs.Pass.{Pass, passOf, begun, withObject, withObjects, AddedAll}
-use Rattle.progress.specs.Wrote.{countedBy, stored, WroteAll}
+use Rattle.progress.specs.Pass.{Pass, passOf, begun, withObject, withObjects, Fits}
+use Rattle.progress.specs.Wrote.{countedBy, stored, WroteAll, FitCounts}
 use Rattle.answers.specs.Answers.{countsFrom}
 use Rattle.scene_mesh.proofs.Demand3.Spans.{piece-size}
 use Rattle.scene_mesh.proofs.MeshSizes.{piece-normals, output-counts}
@@ -118,7 +118,39 @@ module _ (limit : Float) where
       first-is o os st (3 * (st .kept + keptBy limit (o .shape))) e
       ∙ joined o os (meshFrom limit (v + length (piece .vertices)) (3 * st .kept + length (piece .indices)) os) st
 
+  -- objects behind others
+  pub objects-append : (xs ys : List Object) (st : Pass) → withObjects limit ys (withObjects limit xs st) ≡ withObjects limit (xs ++ ys) st
+  objects-append [] ys st = ap (withObjects limit ys) (objects-none st)
+  objects-append (x ∷ xs) ys st =
+      ap (withObjects limit ys) (sym (objects-next x xs st))
+      ∙ objects-append xs ys (withObject limit x st)
+      ∙ objects-next x (xs ++ ys) st
+
+  -- fewer objects fit where more do
+  pub fewer-fit : (os : List Object) (st : Pass) → Fits (withObjects limit os st) → Fits st
+  unfolding withObjects
+  fewer-fit os st f =
+      let v = f .vertices in
+      let k = f .kept in
+      let s = f .spans in
+      let o = f .objects in
+      let e = f .entries in
+      record { vertices = omega arith; kept = omega arith; spans = omega arith; objects = omega arith; entries = omega arith }
+
+  -- whatever the buffers hold
+  pub other-buffers : (o : Object) (p : Progress) (b c : Buffers) → Fits (withObject limit o (passOf p b)) → Fits (withObject limit o (passOf p c))
+  unfolding withObject
+  other-buffers o p b c f = record { vertices = f .vertices; kept = f .kept; spans = f .spans; objects = f .objects; entries = f .entries }
+
+  pub others-buffers : (os : List Object) (p : Progress) (b c : Buffers) → Fits (withObjects limit os (passOf p b)) → Fits (withObjects limit os (passOf p c))
+  unfolding withObjects
+  others-buffers os p b c f = record { vertices = f .vertices; kept = f .kept; spans = f .spans; objects = f .objects; entries = f .entries }
+
   -- the buffers keep their lengths
+  pub objects-lengths : (os : List Object) (st : Pass) → countsOf (withObjects limit os st .buffers) ≡ countsOf (st .buffers)
+  unfolding withObjects countsOf
+  objects-lengths os st = simp length-sets
+
   pub object-lengths : (o : Object) (st : Pass) → countsOf (withObject limit o st .buffers) ≡ countsOf (st .buffers)
   unfolding withObject countsOf
   object-lengths o st = simp length-sets
@@ -141,14 +173,14 @@ module _ (limit : Float) where
     unfolding withObjects stored output meshOf
     wrote-all = record { counts = counts-are; buffers = ap (λ (st : Pass). st .buffers) e }
 
--- what all objects take in each buffer fits u32
-pub fits : {limit : Float} {os : List Object} {p : Progress} {b b′ : Buffers} → AddedAll limit os p b b′
-    → (3 * p .vertices < 4294967296) × (3 * p .kept < 4294967296) × (5 * p .spans < 4294967296) × (4 * p .objects < 4294967296) × (4 * p .entries < 4294967296)
-fits a =
-    let v = a .bounded .vertices in
-    let k = a .bounded .kept in
-    let e = a .bounded .entries in
-    let s = a .bounded .spans in
-    let i = a .place in
-    let o = a .objects in
-    (omega arith, omega arith, omega arith, omega arith, omega arith)
+-- what the numbers in the buffers tell of the objects' counts
+pub counts-fit : (limit : Float) (os : List Object) (b : Buffers) → FitCounts (countsOf (output limit os)) → Fits (withObjects limit os (begun b))
+unfolding withObjects
+counts-fit limit os b f =
+    let g = subst FitCounts (sym (output-counts limit os)) f in
+    let v = g .vertices in
+    let k = g .indices in
+    let s = g .spans in
+    let o = g .account in
+    let e = g .log in
+    record { vertices = omega arith; kept = omega arith; spans = omega arith; objects = omega arith; entries = omega arith }

@@ -1,7 +1,8 @@
 -- The loop over the records: its invariant at the start, after an object and at the end. Assumes nothing.
 use mathlib.Core.Path.{_≡_, refl, sym, ap, _∙_, subst}
-use mathlib.Core.List.{List}
-use Prim.Native.Nat.{ℕ, _+_, _-_, _*_, _≤_, _<_, zero-le}
+use mathlib.Core.List.{List, []}
+use Prim.Native.Nat.{ℕ, _+_, _*_, _≤_, _<_, _^_, zero-le}
+use native.Mathlib.Nat.{add-zero}
 use native.Mathlib.Omega.{arith}
 use lib.ListN.{length, drop, drop-of-length-le}
 use lib.Ieee.{Float}
@@ -14,50 +15,74 @@ use Rattle.scene.proofs.Walk.{Walking, walk-object, walk-next, walk-limits, wal
 use Rattle.answers.specs.declared.Counted.{Counted}
 use Rattle.progress.specs.declared.Progress.{Progress}
 use Rattle.progress.specs.Wrote.{countedBy, WroteAll}
-use Rattle.scene_mesh.specs.Mesh.{pieceOf}
-use Rattle.scene_mesh.specs.Operations.{Buffers, countsOf}
-use Rattle.progress.specs.Pass.{Pass, passOf, begun, withObject, withObjects, Bounded, CanAdd, AddedObject, AddedAll}
-use Rattle.progress.proofs.Pass.Objects.{objects-none, objects-next, object-lengths, wrote-all, fits}
-use Rattle.progress.proofs.Pass.Adding.{shape-most, next-sized, span-most}
+use Rattle.scene_mesh.specs.Operations.{Buffers, lent, countsOf}
+use Rattle.progress.specs.Pass.{beginning, Pass, passOf, withObject, withObjects, Fits, CanAdd, AddedObject, CanAddAll, AddedAll}
+use Rattle.progress.proofs.Pass.Objects.{objects-none, objects-next, object-lengths, fewer-fit, other-buffers, wrote-all}
 
-pub record Walks (limit : Float) (s : List ℕ) (n : ℕ) (b₀ b : Buffers) (p : Progress) : Type 0 where
+-- from p₀ with its buffers b₀, k objects of the scene have led to p with b
+pub record Walks (limit : Float) (s : List ℕ) (n : ℕ) (p₀ : Progress) (b₀ b : Buffers) (p : Progress) : Type 0 where
   pub os : List Object
+  pub k : ℕ
   pub known : AcceptedAs s n os
-  pub walking : Walking s (trailer s n) n os (p .objects) (p .at)
-  pub few : p .objects ≤ n
-  pub place : p .at ≤ trailer s n
-  pub bounded : Bounded p
+  pub walking : Walking s (trailer s n) n os k (p .at)
+  pub counted : p .objects ≡ p₀ .objects + k
+  pub few : k ≤ n
+  pub fits : Fits (withObjects limit os (passOf p₀ b₀))
   pub lengths : countsOf b ≡ countsOf b₀
-  pub same : withObjects limit (drop (p .objects) os) (passOf p b) ≡ withObjects limit os (begun b₀)
+  pub same : withObjects limit (drop k os) (passOf p b) ≡ withObjects limit os (passOf p₀ b₀)
 
-pub walks-start : (limit : Float) (s : List ℕ) (n : ℕ) (b : Buffers) → Accepted n ≡ checkedOf (scene s)
-    → Walks limit s n b b (record { at = 0; objects = 0; vertices = 0; kept = 0; spans = 0; entries = 0 })
-walks-start limit s n b h =
+abbrev pub begunAt : Progress → Progress
+begunAt p = record { at = 0; objects = p .objects; vertices = p .vertices; kept = p .kept; spans = p .spans; entries = p .entries }
+
+pub walks-start : (limit : Float) (s : List ℕ) (n : ℕ) (p : Progress) (b : Buffers) → Accepted n ≡ checkedOf (scene s) → CanAddAll limit s p → Walks limit s n p b b (begunAt p)
+walks-start limit s n p b h c =
     let q = checked-accepted s n h in
     record {
       os = objectsOf (scene s);
+      k = 0;
       known = q;
       walking = q .begins;
+      counted = sym (add-zero (p .objects));
       few = zero-le;
-      place = zero-le;
-      bounded = record { vertices = zero-le; kept = zero-le; entries = zero-le; spans = zero-le };
+      fits = c (objectsOf (scene s)) b (q .is);
       lengths = refl;
       same = refl;
     }
 
-module _ {limit : Float} {s : List ℕ} {n : ℕ} {b₀ b : Buffers} {p : Progress} (w : Walks limit s n b₀ b p) where
-  pub can-add : p .objects < n → CanAdd s p
+-- the number of the last object fits
+pub end-fits : (limit : Float) (s : List ℕ) (n : ℕ) (p : Progress) → Accepted n ≡ checkedOf (scene s) → CanAddAll limit s p → p .objects + n < 2 ^ 32
+unfolding withObjects
+end-fits limit s n p h c =
+    let q = checked-accepted s n h in
+    let size = q .size in
+    let f = c (objectsOf (scene s)) (lent [] [] [] [] [] []) (q .is) .objects in
+    omega arith
+
+module _ {limit : Float} {s : List ℕ} {n : ℕ} {p₀ : Progress} {b₀ b : Buffers} {p : Progress} (w : Walks limit s n p₀ b₀ b p) where
+  -- objects are left
+  more : p .objects < p₀ .objects + n → w .k < n
+  more l = let e = w .counted in omega arith
+
+  -- the next object and those behind it
+  next-is : w .k < n → withObjects limit (drop (w .k + 1) (w .os)) (withObject limit (objectOf s (p .at) (headerAt s (p .at))) (passOf p b)) ≡ withObjects limit (w .os) (passOf p₀ b₀)
+  next-is l =
+      objects-next limit (objectOf s (p .at) (headerAt s (p .at))) (drop (w .k + 1) (w .os)) (passOf p b)
+      ∙ ap (λ (r : List Object). withObjects limit r (passOf p b)) (sym (walk-object (w .walking) l))
+      ∙ w .same
+
+  pub can-add : p .objects < p₀ .objects + n → CanAdd limit s p
   can-add l =
-      let few = w .known .few in
+      let m = more l in
+      let o = objectOf s (p .at) (headerAt s (p .at)) in
+      let f : Fits (withObject limit o (passOf p b)) = fewer-fit limit (drop (w .k + 1) (w .os)) (withObject limit o (passOf p b)) (subst Fits (sym (next-is m)) (w .fits)) in
       record {
-        limits = walk-limits (w .walking) l;
-        inside = let i = walk-inside (w .walking) l in omega (arith, trailer-inside s n);
+        limits = walk-limits (w .walking) m;
+        inside = let i = walk-inside (w .walking) m in omega (arith, trailer-inside s n);
         short = w .known .short;
-        objects = omega arith;
-        bounded = w .bounded;
+        fits = λ c. other-buffers limit o p b c f;
       }
 
-  module _ (l : p .objects < n) {b′ : Buffers} {p′ : Progress} (q : AddedObject limit s p p′ b b′) where
+  module _ (l : p .objects < p₀ .objects + n) {b′ : Buffers} {p′ : Progress} (q : AddedObject limit s p p′ b b′) where
     abbrev o : Object
     o = objectOf s (p .at) (headerAt s (p .at))
 
@@ -65,44 +90,19 @@ module _ {limit : Float} {s : List ℕ} {n : ℕ} {b₀ b : Buffers} {p : Progre
     unfolding withObject
     one-more = ap (λ (st : Pass). st .objects) (q .pass)
 
-    still-bounded : Bounded p′
-    unfolding withObject pieceOf
-    still-bounded =
-        let a = can-add l in
-        let m = shape-most limit (p .vertices) (headerAt s (p .at) .size) (o .shape) (next-sized a) in
-        let mv = m .vertices in
-        let mk = m .kept in
-        let me = m .entries in
-        let at = q .next in
-        let x = ap (λ (st : Pass). st .vertices) (q .pass) in
-        let y = ap (λ (st : Pass). st .kept) (q .pass) in
-        let z = ap (λ (st : Pass). st .entries) (q .pass) in
-        let u = ap (λ (st : Pass). st .spans) (q .pass) in
-        let t = one-more in
-        let sv = span-most limit p o in
-        let v = w .bounded .vertices in
-        let k = w .bounded .kept in
-        let e = w .bounded .entries in
-        let ss = w .bounded .spans in
-        record { vertices = omega arith; kept = omega arith; entries = omega arith; spans = omega arith }
-
-    pub walks-next : Walks limit s n b₀ b′ p′
+    pub walks-next : Walks limit s n p₀ b₀ b′ p′
     walks-next =
-        let k = p .objects in
+        let m = more l in
         record {
           os = w .os;
+          k = w .k + 1;
           known = w .known;
-          walking = subst (λ (i : ℕ). Walking s (trailer s n) n (w .os) (p′ .objects) i) (sym (q .next)) (subst (λ (j : ℕ). Walking s (trailer s n) n (w .os) j (p .at + headerAt s (p .at) .size)) (sym one-more) (walk-next (w .walking) l));
-          few = let t = one-more in omega arith;
-          place = subst (λ (i : ℕ). i ≤ trailer s n) (sym (q .next)) (walk-inside (w .walking) l);
-          bounded = still-bounded;
+          walking = subst (λ (i : ℕ). Walking s (trailer s n) n (w .os) (w .k + 1) i) (sym (q .next)) (walk-next (w .walking) m);
+          counted = let t = one-more in let e = w .counted in omega arith;
+          few = omega arith;
+          fits = w .fits;
           lengths = ap (λ (st : Pass). countsOf (st .buffers)) (q .pass) ∙ object-lengths limit o (passOf p b) ∙ w .lengths;
-          same =
-              ap (λ (j : ℕ). withObjects limit (drop j (w .os)) (passOf p′ b′)) one-more
-              ∙ ap (withObjects limit (drop (k + 1) (w .os))) (q .pass)
-              ∙ objects-next limit o (drop (k + 1) (w .os)) (passOf p b)
-              ∙ ap (λ (r : List Object). withObjects limit r (passOf p b)) (sym (walk-object (w .walking) l))
-              ∙ w .same;
+          same = ap (withObjects limit (drop (w .k + 1) (w .os))) (q .pass) ∙ next-is m;
         }
 
   -- the objects are those that the scene tells
@@ -112,27 +112,27 @@ module _ {limit : Float} {s : List ℕ} {n : ℕ} {b₀ b : Buffers} {p : Progre
       inject : {x y : List Object} → accepted x ≡ accepted y → x ≡ y
       inject q = cc
 
-  walks-end : n ≤ p .objects → (os′ : List Object) → scene s ≡ accepted os′ → AddedAll limit os′ p b₀ b
+  pub walks-end : p₀ .objects + n ≤ p .objects → (os′ : List Object) → scene s ≡ accepted os′ → AddedAll limit os′ p₀ p b₀ b
   walks-end h os′ e =
       let size = w .known .size in
-      let few = w .few in
-      let most = w .known .few in
-      let short = w .known .short in
-      let place = w .place in
-      let all : length (w .os) ≤ p .objects = omega arith in
+      let c = w .counted in
+      let all : length (w .os) ≤ w .k = omega arith in
       record {
         pass =
             sym (objects-none limit (passOf p b))
             ∙ ap (λ (r : List Object). withObjects limit r (passOf p b)) (sym (drop-of-length-le (w .os) all))
             ∙ w .same
-            ∙ ap (λ (r : List Object). withObjects limit r (begun b₀)) (same-objects os′ e);
-        place = omega (arith, trailer-inside s n);
-        objects = omega arith;
-        bounded = w .bounded;
+            ∙ ap (λ (r : List Object). withObjects limit r (passOf p₀ b₀)) (same-objects os′ e);
       }
 
-  pub walks-fit : n ≤ p .objects → (3 * p .vertices < 4294967296) × (3 * p .kept < 4294967296) × (5 * p .spans < 4294967296) × (4 * p .objects < 4294967296) × (4 * p .entries < 4294967296)
-  walks-fit h = fits (walks-end h (w .os) (w .known .is))
+-- ---- a scene of its own
 
-  pub walks-wrote : n ≤ p .objects → {c : Counted} → c ≡ countedBy p → (os′ : List Object) → scene s ≡ accepted os′ → WroteAll limit os′ c b₀ b
-  walks-wrote h e os′ q = subst (λ (c : Counted). WroteAll limit os′ c b₀ b) (sym e) (wrote-all limit os′ p b₀ b (walks-end h os′ q .pass))
+-- what has been added fits where the scene's objects do
+pub added-fits : (limit : Float) (s : List ℕ) (n : ℕ) {p : Progress} {b b′ : Buffers} → Accepted n ≡ checkedOf (scene s) → CanAddAll limit s beginning
+    → ((os : List Object) → scene s ≡ accepted os → AddedAll limit os beginning p b b′) → Fits (passOf p b′)
+added-fits limit s n {p} {b} h c a =
+    let q = checked-accepted s n h in
+    subst Fits (sym (a (objectsOf (scene s)) (q .is) .pass)) (c (objectsOf (scene s)) b (q .is))
+
+pub added-wrote : {limit : Float} {os : List Object} {p : Progress} {b b′ : Buffers} {c : Counted} → c ≡ countedBy p → AddedAll limit os beginning p b b′ → WroteAll limit os c b b′
+added-wrote {limit} {os} {p} {b} {b′} e a = subst (λ (c : Counted). WroteAll limit os c b b′) (sym e) (wrote-all limit os p b b′ (a .pass))

@@ -13,14 +13,14 @@ put-span-requires : tie.Need-put-span-requires
 put-span-requires c κs =
     let c₁ = c .before .before .before .before .before .before .before .before .before .before .before in
     let c₂ = c₁ .before .before .before .before .before .before .before in
-    let v = can-advance (c₂ .before .before .before .before .before .before .before .before .pre) (c₂ .header-at .ensures) _ _ (drawn-is (c₁ .draw .ensures)) in
+    let v = can-advance (c₂ .before .before .before .before .before .before .before .before .pre) (c₂ .header-at .ensures) _ (drawn-is (c₁ .draw .ensures)) in
     (v .vertices, v .kept)
 
 advance-requires : tie.Need-advance-requires
 advance-requires c κs =
     let c₁ = c .before .before .before .before .before .before .before .before .before .before .before .before .before .before .before .before .before .before in
     let c₂ = c₁ .before .before .before .before .before .before .before in
-    can-advance (c₂ .before .before .before .before .before .before .before .before .pre) (c₂ .header-at .ensures) _ _ (drawn-is (c₁ .draw .ensures))
+    can-advance (c₂ .before .before .before .before .before .before .before .before .pre) (c₂ .header-at .ensures) _ (drawn-is (c₁ .draw .ensures))
 
 returns : tie.Need-returns
 returns c =
