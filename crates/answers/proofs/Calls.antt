@@ -18,7 +18,8 @@ use Rattle.validation.specs.Validate.{validate}
 use Rattle.answers.specs.declared.Counted.{Counted}
 use Rattle.answers.specs.declared.Measured.the-variants.{Refused as NotMeasured, Counts as CountsAre}
 use Rattle.answers.specs.declared.BuiltAnswer.the-variants.{Refused}
-use Rattle.scene_mesh.specs.Operations.{Answer, Buffers, Built, output, noCounts, refusedWith, countsOf, done, measureScene, measure, tooShort, overlay, buildOutput, buildScene, build}
+use Rattle.scene_mesh.specs.PerBuffer.{Buffers}
+use Rattle.scene_mesh.specs.Operations.{Answer, Built, output, noCounts, refusedWith, countsOf, done, measureScene, measure, tooShort, overlay, buildOutput, buildScene, build}
 use Rattle.answers.specs.Answers.{countsFrom, measuredAnswer, builtWith, BuiltAndJudged, judged, buildAndValidate}
 use Rattle.scene_mesh.specs.Demand3.{LongEnough, measured, Demand3Of}
 use Rattle.scene_mesh.proofs.Demand3.{long-enough, demand3}

@@ -18,13 +18,18 @@ use Rattle.answers.specs.declared.Measured.the-variants.{Refused as NotM
 use Rattle.answers.specs.declared.BuiltAnswer.{BuiltAnswer}
 use Rattle.answers.specs.declared.BuiltAnswer.the-variants.{Refused, ShortVertices, ShortIndices, ShortRecords, Complete}
 use Rattle.answers.specs.declared.Answer.{Answer as CAnswer}
-use Rattle.scene_mesh.specs.Operations.{Counts, Answer, Buffers, Built, refusedWith, output, countsOf, build}
+use Rattle.scene_mesh.specs.PerBuffer.{Counts, Buffers}
+use Rattle.scene_mesh.specs.Operations.{Answer, Built, refusedWith, output, countsOf, build}
 
 abbrev pub countsFrom : Counted → Counts
 countsFrom c = record { vertices = c .vertices; normals = c .normals; indices = c .indices; spans = c .spans; account = c .account; log = c .log }
 
 abbrev pub lengthsFrom : Lengths → Counts
 lengthsFrom c = record { vertices = c .vertices; normals = c .normals; indices = c .indices; spans = c .spans; account = c .account; log = c .log }
+
+-- the answer that C gets
+abbrev pub answerFrom : CAnswer → Answer
+answerFrom a = record { number = a .refusal; object = a .object; counts = countsFrom (a .counts) }
 
 -- a call that is not refused
 abbrev pub accepts : Counted → Answer
@@ -44,11 +49,6 @@ builtAnswer (Complete c) = accepts c
 -- an answer of Build and what the buffers hold
 abbrev pub builtWith : BuiltAnswer → Buffers → Built
 builtWith r b = record { answer = builtAnswer r; buffers = b }
-
--- as the C functions give it
-abbrev pub answerNumbers : Answer → CAnswer
-answerNumbers a =
-    record { refusal = a .number; object = a .object; vertices = a .counts .vertices; normals = a .counts .normals; indices = a .counts .indices; spans = a .counts .spans; account = a .counts .account; log = a .counts .log }
 
 -- the first buffer that is too short, or Complete
 unfoldable pub roomFor : Counts → Counted → BuiltAnswer

@@ -1,12 +1,14 @@
 // What the operations answer: specs/Answers.antt gives document 01's number and values for each case.
 ghost use mathlib.Core.Path.{_≡_};
 ghost use Rattle.float.specs.Number.{minArea};
-ghost use Rattle.answers.specs.Answers.{measuredAnswer, builtAnswer, answerNumbers};
+ghost use Rattle.scene_mesh.specs.Operations.{noCounts, refusedWith};
+ghost use Rattle.answers.specs.Answers.{countsFrom, accepts, answerFrom, measuredAnswer, builtAnswer};
 use scene::Refusal;
 use scene::refusal_number;
 use validation::Validation;
 
 // How many numbers each buffer gets.
+#[repr(C)]
 pub struct Counted {
     pub vertices: u32,
     pub normals: u32,
@@ -68,21 +70,14 @@ pub fn min_area() -> f32
 pub struct Answer {
     pub refusal: u32,
     pub object: u32,
-    pub vertices: u32,
-    pub normals: u32,
-    pub indices: u32,
-    pub spans: u32,
-    pub account: u32,
-    pub log: u32,
+    pub counts: Counted,
 }
 
-impl Answer {
-    fn refused(refusal: u32, object: u32) -> Answer
-        ensures { λ r. ⌜ r ≡ record { refusal = refusal; object = object; vertices = 0; normals = 0; indices = 0; spans = 0; account = 0; log = 0 } ⌝ }
+impl Counted {
+    fn none() -> Counted
+        ensures { λ r. ⌜ countsFrom r ≡ noCounts ⌝ }
     {
-        Answer {
-            refusal,
-            object,
+        Counted {
             vertices: 0,
             normals: 0,
             indices: 0,
@@ -91,44 +86,51 @@ impl Answer {
             log: 0,
         }
     }
+}
 
-    fn counts(c: Counted) -> Answer
-        ensures { λ r. ⌜ r ≡ record { refusal = 0; object = 0; vertices = c .vertices; normals = c .normals; indices = c .indices; spans = c .spans; account = c .account; log = c .log } ⌝ }
+impl Answer {
+    fn refused(refusal: u32, object: u32) -> Answer
+        ensures { λ r. ⌜ answerFrom r ≡ refusedWith refusal object ⌝ }
+    {
+        Answer {
+            refusal,
+            object,
+            counts: Counted::none(),
+        }
+    }
+
+    fn accepted(counts: Counted) -> Answer
+        ensures { λ r. ⌜ answerFrom r ≡ accepts counts ⌝ }
     {
         Answer {
             refusal: 0,
             object: 0,
-            vertices: c.vertices,
-            normals: c.normals,
-            indices: c.indices,
-            spans: c.spans,
-            account: c.account,
-            log: c.log,
+            counts,
         }
     }
 }
 
 impl Measured {
     pub fn numbers(self) -> Answer
-        ensures { λ r. ⌜ r ≡ answerNumbers (measuredAnswer self) ⌝ }
+        ensures { λ r. ⌜ answerFrom r ≡ measuredAnswer self ⌝ }
     {
         match self {
             Measured::Refused(f, object) => Answer::refused(refusal_number(f), object),
-            Measured::Counts(c) => Answer::counts(c),
+            Measured::Counts(c) => Answer::accepted(c),
         }
     }
 }
 
 impl BuiltAnswer {
     pub fn numbers(self) -> Answer
-        ensures { λ r. ⌜ r ≡ answerNumbers (builtAnswer self) ⌝ }
+        ensures { λ r. ⌜ answerFrom r ≡ builtAnswer self ⌝ }
     {
         match self {
             BuiltAnswer::Refused(f, object) => Answer::refused(refusal_number(f), object),
             BuiltAnswer::ShortVertices => Answer::refused(8, 0),
             BuiltAnswer::ShortIndices => Answer::refused(9, 0),
             BuiltAnswer::ShortRecords => Answer::refused(10, 0),
-            BuiltAnswer::Complete(c) => Answer::counts(c),
+            BuiltAnswer::Complete(c) => Answer::accepted(c),
         }
     }
 
@@ -137,9 +139,10 @@ impl BuiltAnswer {
         ensures { λ r. ⌜ (r .vertices ≡ builtAnswer self .counts .vertices) × (r .indices ≡ builtAnswer self .counts .indices) ⌝ }
     {
         let a = self.numbers();
+        let c = a.counts;
         MeshLengths {
-            vertices: a.vertices as usize,
-            indices: a.indices as usize,
+            vertices: c.vertices as usize,
+            indices: c.indices as usize,
         }
     }
 }

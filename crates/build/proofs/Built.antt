@@ -18,7 +18,9 @@ use Rattle.scene.specs.Answers.{checkedOf}
 use Rattle.answers.specs.declared.Counted.{Counted}
 use Rattle.answers.specs.declared.BuiltAnswer.{BuiltAnswer}
 use Rattle.answers.specs.declared.BuiltAnswer.the-variants.{Refused, ShortVertices, ShortIndices, ShortRecords, Complete}
-use Rattle.scene_mesh.specs.Operations.{Counts, Buffers, output, countsOf, done, tooShort, overlay, buildOutput, buildScene, build}
+use Rattle.scene_mesh.specs.PerBuffer.{Buffer, each, at, Counts, Buffers}
+use Rattle.scene_mesh.specs.PerBuffer.Buffer.{vertices, normals, indices, spans, account, log}
+use Rattle.scene_mesh.specs.Operations.{output, countsOf, done, tooShort, overlay, buildOutput, buildScene, build}
 use Rattle.answers.specs.Answers.{countsFrom, builtWith, roomFor}
 use Rattle.answers.proofs.Calls.{build-refused, build-accepted}
 use Rattle.room.proofs.Rooms.{noVertices, noIndices, noRecords}
@@ -72,17 +74,19 @@ either-false : (a b : Bool) → (a || b) ≡ false → (a ≡ false) × (b ≡ f
 either-false true b e = absurd (no e)
 either-false false b e = (refl, e)
 
-pub stored-over : (w b : Buffers) → length (w .vertices) ≤ length (b .vertices) → length (w .normals) ≤ length (b .normals) → length (w .indices) ≤ length (b .indices)
-    → length (w .spans) ≤ length (b .spans) → length (w .account) ≤ length (b .account) → length (w .log) ≤ length (b .log) → stored w b ≡ overlay w b
+-- what fits is written over each buffer's first part
+lengths-fit : (w b : Buffers) → LongEnough (countsOf b) (countsOf w) → (k : Buffer) → length (at w k) ≤ length (at b k)
+unfolding countsOf
+lengths-fit w b l vertices = l .vertices
+lengths-fit w b l normals = l .normals
+lengths-fit w b l indices = l .indices
+lengths-fit w b l spans = l .spans
+lengths-fit w b l account = l .account
+lengths-fit w b l log = l .log
+
+pub stored-over : (w b : Buffers) → LongEnough (countsOf b) (countsOf w) → stored w b ≡ overlay w b
 unfolding stored overlay
-stored-over w b p q r s t u = λ i. record {
-  vertices = sets-over (w .vertices) (b .vertices) p i;
-  normals = sets-over (w .normals) (b .normals) q i;
-  indices = sets-over (w .indices) (b .indices) r i;
-  spans = sets-over (w .spans) (b .spans) s i;
-  account = sets-over (w .account) (b .account) t i;
-  log = sets-over (w .log) (b .log) u i;
-}
+stored-over w b l = λ i. each (λ k. sets-over (at w k) (at b k) (lengths-fit w b l k) i)
 
 -- each buffer has room for what was found to fit
 pub enough-room : (has : Counts) (c c′ : Counted) → Complete c′ ≡ roomFor has c → LongEnough has (countsFrom c)
@@ -102,25 +106,11 @@ enough-room has c c′ q =
     }
 
 pub longer : {a b c : Counts} → LongEnough a b → LongEnough b c → LongEnough a c
-longer p q = record {
-  vertices = le-trans (q .vertices) (p .vertices);
-  normals = le-trans (q .normals) (p .normals);
-  indices = le-trans (q .indices) (p .indices);
-  spans = le-trans (q .spans) (p .spans);
-  account = le-trans (q .account) (p .account);
-  log = le-trans (q .log) (p .log);
-}
+longer p q = each (λ k. le-trans (at q k) (at p k))
 
 -- what fits u32, and no more than that
 fewer : {a b : Counts} → FitCounts a → LongEnough a b → FitCounts b
-fewer f p = record {
-  vertices = lt-of-le-of-lt (p .vertices) (f .vertices);
-  normals = lt-of-le-of-lt (p .normals) (f .normals);
-  indices = lt-of-le-of-lt (p .indices) (f .indices);
-  spans = lt-of-le-of-lt (p .spans) (f .spans);
-  account = lt-of-le-of-lt (p .account) (f .account);
-  log = lt-of-le-of-lt (p .log) (f .log);
-}
+fewer f p = each (λ k. lt-of-le-of-lt (at p k) (at f k))
 
 pub few-fit : {a b : Most} {n : ℕ} → Few a 16777216 65536 → Few b 16777216 65536 → n ≤ 65536 → FitCounts (numbersOf (together a b) n)
 few-fit p q h =
@@ -132,7 +122,7 @@ built-whole : (os : List Object) (b : Buffers) (c : Counted) → countsFrom c �
 unfolding buildScene buildOutput countsOf done
 built-whole os b c e b′ l r =
     let w = output minArea os in
-    (λ i. record { answer = record { number = 0; object = 0; counts = e i }; buffers = (r ∙ stored-over w b (l .vertices) (l .normals) (l .indices) (l .spans) (l .account) (l .log)) i })
+    (λ i. record { answer = record { number = 0; object = 0; counts = e i }; buffers = (r ∙ stored-over w b l) i })
     ∙ ap (buildOutput w b) (sym (long-enough (countsOf b) (countsOf w) l))
 
 -- ---- the plan by counts

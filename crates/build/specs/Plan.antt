@@ -7,7 +7,8 @@ use Rattle.object.specs.Object.{Object}
 use Rattle.scene.specs.declared.scenes.Checked.the-variants.{Accepted}
 use Rattle.scene.specs.Scene.{scene, accepted}
 use Rattle.scene.specs.Answers.{checkedOf}
-use Rattle.scene_mesh.specs.Operations.{Counts, Buffers, output, countsOf, tooShort, buildOutput, build}
+use Rattle.scene_mesh.specs.PerBuffer.{Counts, Buffers}
+use Rattle.scene_mesh.specs.Operations.{output, countsOf, tooShort, buildOutput, build}
 use Rattle.scene_mesh.specs.Demand3.{LongEnough}
 use Rattle.answers.specs.Answers.{builtWith}
 use Rattle.progress.specs.Wrote.{FitCounts}

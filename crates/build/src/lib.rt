@@ -7,7 +7,8 @@ ghost use Prim.Native.Nat.{_≤_};
 ghost use Rattle.scene.specs.declared.scenes.Checked.the-variants.{Accepted};
 ghost use Rattle.scene.specs.Scene.{scene};
 ghost use Rattle.scene.specs.Answers.{checkedOf};
-ghost use Rattle.scene_mesh.specs.Operations.{lent, build};
+ghost use Rattle.scene_mesh.specs.PerBuffer.{entering, leaving};
+ghost use Rattle.scene_mesh.specs.Operations.{build};
 ghost use Rattle.answers.specs.Answers.{lengthsFrom, builtWith};
 ghost use Rattle.most.specs.Most.{numbersOf, together, Few};
 ghost use Rattle.build.specs.Plan.{PlanBy, PlanHolds};
@@ -76,7 +77,7 @@ pub fn build(
     account: &mut [u32],
     log: &mut [u32],
 ) -> BuiltAnswer
-    ensures { λ r. ⌜ builtWith r (lent (now (vertices .exit)) (now (normals .exit)) (now (indices .exit)) (now (spans .exit)) (now (account .exit)) (now (log .exit))) ≡ build (now (s .entry)) (lent (now (vertices .entry)) (now (normals .entry)) (now (indices .entry)) (now (spans .entry)) (now (account .entry)) (now (log .entry))) ⌝ }
+    ensures { λ r. ⌜ builtWith r (leaving vertices normals indices spans account log) ≡ build (now (s .entry)) (entering vertices normals indices spans account log) ⌝ }
 {
     let has = Lengths {
         vertices: vertices.len(),

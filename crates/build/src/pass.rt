@@ -6,7 +6,7 @@ ghost use Rattle.object.specs.Object.{Object};
 ghost use Rattle.scene.specs.declared.scenes.Checked.the-variants.{Accepted};
 ghost use Rattle.scene.specs.Scene.{scene, accepted};
 ghost use Rattle.scene.specs.Answers.{checkedOf};
-ghost use Rattle.scene_mesh.specs.Operations.{lent};
+ghost use Rattle.scene_mesh.specs.PerBuffer.{entering, leaving};
 ghost use Rattle.progress.specs.Pass.{beginning, CanAdd, AddedObject, CanAddAll, AddedAll};
 ghost use Rattle.progress.specs.Wrote.{WroteAll};
 use answers::Counted;
@@ -31,7 +31,7 @@ fn object_at(
     log: &mut [u32],
 ) -> Progress
     requires { ⌜ CanAdd limit (now s) p ⌝ }
-    ensures { λ r. ⌜ AddedObject limit (now (s .entry)) p r (lent (now (vs .entry)) (now (ns .entry)) (now (is .entry)) (now (spans .entry)) (now (account .entry)) (now (log .entry))) (lent (now (vs .exit)) (now (ns .exit)) (now (is .exit)) (now (spans .exit)) (now (account .exit)) (now (log .exit))) ⌝ }
+    ensures { λ r. ⌜ AddedObject limit (now (s .entry)) p r (entering vs ns is spans account log) (leaving vs ns is spans account log) ⌝ }
 {
     let h = headers::header_at(s, p.at);
     let body = h.body;
@@ -72,7 +72,7 @@ pub fn write_behind(
     log: &mut [u32],
 ) -> Progress
     requires { ⌜ (Accepted n ≡ checkedOf (scene (now s))) × CanAddAll limit (now s) from ⌝ }
-    ensures { λ r. ⌜ ((os : List Object) → scene (now (s .entry)) ≡ accepted os → AddedAll limit os from r (lent (now (vs .entry)) (now (ns .entry)) (now (is .entry)) (now (spans .entry)) (now (account .entry)) (now (log .entry))) (lent (now (vs .exit)) (now (ns .exit)) (now (is .exit)) (now (spans .exit)) (now (account .exit)) (now (log .exit)))) ⌝ }
+    ensures { λ r. ⌜ ((os : List Object) → scene (now (s .entry)) ≡ accepted os → AddedAll limit os from r (entering vs ns is spans account log) (leaving vs ns is spans account log)) ⌝ }
 {
     let end = from.objects + n;
     let mut p = Progress {
@@ -102,7 +102,7 @@ pub fn write_objects(
     log: &mut [u32],
 ) -> Counted
     requires { ⌜ (Accepted n ≡ checkedOf (scene (now s))) × CanAddAll limit (now s) beginning ⌝ }
-    ensures { λ r. ⌜ ((os : List Object) → scene (now (s .entry)) ≡ accepted os → WroteAll limit os r (lent (now (vs .entry)) (now (ns .entry)) (now (is .entry)) (now (spans .entry)) (now (account .entry)) (now (log .entry))) (lent (now (vs .exit)) (now (ns .exit)) (now (is .exit)) (now (spans .exit)) (now (account .exit)) (now (log .exit)))) ⌝ }
+    ensures { λ r. ⌜ ((os : List Object) → scene (now (s .entry)) ≡ accepted os → WroteAll limit os r (entering vs ns is spans account log) (leaving vs ns is spans account log)) ⌝ }
 {
     count_numbers(write_behind(s, n, limit, BEGINNING, vs, ns, is, spans, account, log))
 }

@@ -4,7 +4,8 @@ ghost use mathlib.Core.List.{List};
 ghost use Rattle.float.specs.Number.{minArea};
 ghost use Rattle.object.specs.Object.{Object};
 ghost use Rattle.scene.specs.Scene.{scene, accepted};
-ghost use Rattle.scene_mesh.specs.Operations.{lent, countsOf, measure, build};
+ghost use Rattle.scene_mesh.specs.PerBuffer.{entering, leaving};
+ghost use Rattle.scene_mesh.specs.Operations.{countsOf, measure, build};
 ghost use Rattle.answers.specs.Answers.{builtAnswer, builtWith, buildAndValidate};
 ghost use Rattle.scene_mesh.specs.Demand3.{LongEnough, measured, Demand3Of};
 use answers::JudgedBuild;
@@ -19,8 +20,8 @@ pub fn build_and_validate(
     account: &mut [u32],
     log: &mut [u32],
 ) -> JudgedBuild
-    ensures same { λ r. ⌜ record { built = builtWith (r .answer) (lent (now (vertices .exit)) (now (normals .exit)) (now (indices .exit)) (now (spans .exit)) (now (account .exit)) (now (log .exit))); validation = r .validation } ≡ buildAndValidate (now (s .entry)) (lent (now (vertices .entry)) (now (normals .entry)) (now (indices .entry)) (now (spans .entry)) (now (account .entry)) (now (log .entry))) ⌝ }
-    ensures demand3 { λ r. ⌜ ((os : List Object) → scene (now (s .entry)) ≡ accepted os → LongEnough (countsOf (lent (now (vertices .entry)) (now (normals .entry)) (now (indices .entry)) (now (spans .entry)) (now (account .entry)) (now (log .entry)))) (measure (now (s .entry)) .counts) → Demand3Of minArea os (measured (builtAnswer (r .answer) .counts) (lent (now (vertices .exit)) (now (normals .exit)) (now (indices .exit)) (now (spans .exit)) (now (account .exit)) (now (log .exit))))) ⌝ }
+    ensures same { λ r. ⌜ record { built = builtWith (r .answer) (leaving vertices normals indices spans account log); validation = r .validation } ≡ buildAndValidate (now (s .entry)) (entering vertices normals indices spans account log) ⌝ }
+    ensures demand3 { λ r. ⌜ ((os : List Object) → scene (now (s .entry)) ≡ accepted os → LongEnough (countsOf (entering vertices normals indices spans account log)) (measure (now (s .entry)) .counts) → Demand3Of minArea os (measured (builtAnswer (r .answer) .counts) (leaving vertices normals indices spans account log))) ⌝ }
 {
     let answer = build(s, vertices, normals, indices, spans, account, log);
     let m = answer.mesh_lengths();

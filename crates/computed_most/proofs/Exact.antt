@@ -2,15 +2,14 @@
 -- sweep in which a section stands twice it is too much, and the bound with the objects without lids measured is exact. Assumes nothing.
 use Prim.Native.Nat.{ℕ}
 use mathlib.Core.Path.{_≡_, refl}
-use mathlib.Core.Bool.{Bool, true, false, not, _&&_}
+use mathlib.Core.Bool.{Bool, true, false, not}
 use mathlib.Core.List.{List, [], _∷_, _++_}
-use lib.Dec.{eqb}
 use lib.IntN.{pos}
 use Rattle.lists.specs.Loops.{join, every}
 use Rattle.float.specs.Number.{minArea}
 use Rattle.scene.specs.Scene.{scene}
-use Rattle.scene_mesh.specs.Operations.{Counts, countsOf, output}
-use Rattle.scene_mesh.specs.Samples.{Upright, upright, bytesOf, head, solidBytes, cornerBytes, outlineBytes, sceneBytes, objectsIn}
+use Rattle.scene_mesh.specs.Operations.{countsOf, output}
+use Rattle.scene_mesh.specs.Samples.{Upright, upright, bytesOf, head, solidBytes, cornerBytes, outlineBytes, sceneBytes, objectsIn, sameCounts}
 use Rattle.scene_mesh.proofs.Computes.{all}
 use Rattle.most.specs.Most.{solidMost, outlineMost, sweepMost, mostOf, exactOf, hasLid, inPart, partOf, partOfAll, mostCounts}
 
@@ -26,12 +25,8 @@ swept kind = head kind 7 ++ bytesOf 2 2 ++ join cornerBytes (upright 0 2 1 ∷ u
 twice : List ℕ
 twice = head 5 7 ++ bytesOf 2 3 ++ join cornerBytes (upright 0 2 1 ∷ upright 0 0 1 ∷ upright 4 2 1 ∷ upright 4 0 1 ∷ upright 4 2 1 ∷ upright 4 0 1 ∷ [])
 
-same : Counts → Counts → Bool
-same a b =
-    eqb (a .vertices) (b .vertices) && eqb (a .normals) (b .normals) && eqb (a .indices) (b .indices) && eqb (a .spans) (b .spans) && eqb (a .account) (b .account) && eqb (a .log) (b .log)
-
 exact-for : Bool → List ℕ → Bool
-exact-for nearer bytes = let os = objectsIn (scene (sceneBytes (bytes ∷ []))) in same (mostCounts nearer false minArea os) (countsOf (output minArea os))
+exact-for nearer bytes = let os = objectsIn (scene (sceneBytes (bytes ∷ []))) in sameCounts (mostCounts nearer false minArea os) (countsOf (output minArea os))
 
 pub exact-tests : List Bool
 exact-tests =
@@ -48,5 +43,5 @@ exact-tests =
     ∷ []
 
 pub exact : every (λ b. b) exact-tests ≡ true
-unfolding all solidMost outlineMost sweepMost mostOf exactOf hasLid inPart partOf partOfAll mostCounts square swept twice same exact-for exact-tests
+unfolding all solidMost outlineMost sweepMost mostOf exactOf hasLid inPart partOf partOfAll mostCounts square swept twice exact-for exact-tests
 exact = refl

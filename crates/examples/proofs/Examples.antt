@@ -2,11 +2,11 @@
 use mathlib.Core.Path.{_≡_, refl}
 use mathlib.Core.Bool.{true}
 use Rattle.lists.specs.Loops.{every}
-use Rattle.examples.specs.Examples.{digits, lentFor, bitsOf, agreesWith, agrees, refusals}
+use Rattle.examples.specs.Examples.{digits, lentFor, agreesWith, agrees, refusals}
 use Rattle.scene_mesh.proofs.Computes.{all}
 
 unfoldable pub compared : Unit {0}
-unfolding all digits lentFor bitsOf agreesWith agrees
+unfolding all digits lentFor agreesWith agrees
 compared = tt
 
 pub refusals-agree : every agrees refusals ≡ true

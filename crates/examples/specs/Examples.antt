@@ -2,15 +2,15 @@
 -- A list of n bytes or of n 32-bit words is written as one hexadecimal number, the first one foremost; an f32 is its bits.
 use Prim.Native.Nat.{ℕ, zero, suc, _/_, _%_, _^_}
 use mathlib.Core.Bool.{Bool, _&&_}
-use mathlib.Core.List.{List, [], _∷_, map}
-use lib.ListN.{length, replicate}
+use mathlib.Core.List.{List, [], _∷_}
+use lib.ListN.{length}
 use lib.Dec.{eqb}
-use lib.Ieee.{Float, binary32, toBits}
 use Rattle.float.specs.Number.{zerof}
 use Rattle.validation.specs.Numbers.{validationNumbers}
 use Rattle.validation.specs.Validate.{validate}
-use Rattle.scene_mesh.specs.Operations.{Buffers, Built, build}
-use Rattle.scene_mesh.specs.Samples.{same}
+use Rattle.scene_mesh.specs.PerBuffer.{PerBuffer, each, at, Buffers}
+use Rattle.scene_mesh.specs.Operations.{Built, build}
+use Rattle.scene_mesh.specs.Samples.{filled, wordsOf, sameWords}
 
 unfoldable pub digits : ℕ → ℕ → ℕ → List ℕ
 digits base zero x = []
@@ -28,33 +28,23 @@ pub record Example : Type 0 where
   pub number : ℕ
   pub object : ℕ
   pub verdict : ℕ
-  pub vertices : List ℕ
-  pub normals : List ℕ
-  pub indices : List ℕ
-  pub spans : List ℕ
-  pub account : List ℕ
-  pub log : List ℕ
+  pub words : PerBuffer (λ k. List ℕ)
 
 abbrev pub builtAs : List ℕ → ℕ → List ℕ → List ℕ → List ℕ → List ℕ → List ℕ → List ℕ → Example
-builtAs s v a b c d e f = record { scene = s; number = 0; object = 0; verdict = v; vertices = a; normals = b; indices = c; spans = d; account = e; log = f }
+builtAs s v a b c d e f = record { scene = s; number = 0; object = 0; verdict = v; words = record { vertices = a; normals = b; indices = c; spans = d; account = e; log = f } }
 
 -- refused: nothing is built, and the empty mesh is Empty
 abbrev pub refusedAs : List ℕ → ℕ → ℕ → Example
-refusedAs s number object = record { scene = s; number = number; object = object; verdict = 1; vertices = []; normals = []; indices = []; spans = []; account = []; log = [] }
+refusedAs s number object = record { scene = s; number = number; object = object; verdict = 1; words = each (λ k. []) }
 
 -- buffers of the sizes that are expected
 unfoldable pub lentFor : Example → Buffers
-lentFor e =
-    record { vertices = replicate (length (e .vertices)) zerof; normals = replicate (length (e .normals)) zerof; indices = replicate (length (e .indices)) 0; spans = replicate (length (e .spans)) 0; account = replicate (length (e .account)) 0; log = replicate (length (e .log)) 0 }
-
-unfoldable pub bitsOf : List Float → List ℕ
-bitsOf xs = map (toBits binary32) xs
+lentFor e = filled zerof 0 (each (λ k. length (at (e .words) k)))
 
 unfoldable pub agreesWith : Example → Built → Bool
 agreesWith e r =
     eqb (r .answer .number) (e .number) && eqb (r .answer .object) (e .object)
-    && same (bitsOf (r .buffers .vertices)) (e .vertices) && same (bitsOf (r .buffers .normals)) (e .normals) && same (r .buffers .indices) (e .indices)
-    && same (r .buffers .spans) (e .spans) && same (r .buffers .account) (e .account) && same (r .buffers .log) (e .log)
+    && sameWords (wordsOf (r .buffers)) (e .words)
     && eqb (validationNumbers (validate (r .buffers .vertices) (r .buffers .indices)) .verdict) (e .verdict)
 
 unfoldable pub agrees : Example → Bool

@@ -9,7 +9,8 @@ use borrow.Author.Tests.{lt-ltb}
 use Rattle.float.specs.Number.{minArea}
 use Rattle.scene.specs.declared.Refusal.the-variants.{Length}
 use Rattle.scene.specs.Scene.{Scene, refused, scene, countAt, trailer, recordsFrom}
-use Rattle.scene_mesh.specs.Operations.{Buffers, refusedWith, measure, measureScene, build, buildScene}
+use Rattle.scene_mesh.specs.PerBuffer.{Buffers}
+use Rattle.scene_mesh.specs.Operations.{refusedWith, measure, measureScene, build, buildScene}
 
 over-length : (s : List ℕ) → 16777216 < length s → scene s ≡ refused Length 0
 unfolding scene

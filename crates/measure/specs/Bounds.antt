@@ -4,7 +4,8 @@ use mathlib.Core.List.{List}
 use lib.Ieee.{Float}
 use Rattle.object.specs.Object.{Object}
 use Rattle.scene.specs.Scene.{Scene, refused, accepted, numberOf}
-use Rattle.scene_mesh.specs.Operations.{Counts, Answer, refusedWith}
+use Rattle.scene_mesh.specs.PerBuffer.{Counts}
+use Rattle.scene_mesh.specs.Operations.{Answer, refusedWith}
 use Rattle.most.specs.Most.{mostCounts}
 
 unfoldable pub boundOf : Bool → Float → List Object → Counts

@@ -15,7 +15,7 @@ use Rattle.object.specs.Object.{Shape, solid, outline, sweep, roundSweep, Objec
 use Rattle.face.specs.Faces.{writeFaces}
 use Rattle.shapes.specs.Shapes.{facesOf, logOf}
 use Rattle.scene_mesh.specs.Mesh.{keptBy}
-use Rattle.scene_mesh.specs.Operations.{Counts}
+use Rattle.scene_mesh.specs.PerBuffer.{Counts, numbersFor}
 use Rattle.most.specs.declared.Most.{Most}
 
 -- so many vertices, triangles and log entries of one shape: a span only where there is a triangle
@@ -77,8 +77,7 @@ partOfAll lids exact limit (o ∷ os) = together (partOf lids exact limit (o .sh
 
 -- the numbers that n objects take in each buffer
 abbrev pub numbersOf : Most → ℕ → Counts
-numbersOf m n =
-    record { vertices = 3 * m .vertices; normals = 3 * m .vertices; indices = 3 * m .triangles; spans = 5 * m .spans; account = 4 * n; log = 4 * m .entries }
+numbersOf m n = numbersFor (m .vertices) (m .triangles) (m .spans) n (m .entries)
 
 -- by whether the objects without lids, and those with lids, are measured
 unfoldable pub mostCounts : Bool → Bool → Float → List Object → Counts

@@ -4,7 +4,7 @@ ghost use mathlib.Core.Bool.{cond};
 ghost use Prim.Native.Nat.{_+_, _-_, _≤_};
 ghost use lib.Ieee.{lt};
 ghost use Rattle.float.specs.Number.{zerof};
-ghost use Rattle.most.specs.Most.{ofShape, solidMost, outlineMost, sweepMost};
+ghost use Rattle.most.specs.Most.{ofShape, solidMost, outlineMost, sweepMost, together, Few};
 use object::Extent;
 
 // The most vertices, triangles, spans and log entries.
@@ -86,4 +86,17 @@ pub fn sweep_most(round: bool, sections: u32) -> Most
         return of_shape(less(64 * sections, 32), less(32 * sections, 4), 0);
     }
     of_shape(less(16 * sections, 8), less(8 * sections, 4), 0)
+}
+
+// What two parts of a scene come to.
+pub fn add(a: Most, b: Most) -> Most
+    requires { ⌜ Few (together a b) 33554432 131072 ⌝ }
+    ensures { λ r. ⌜ r ≡ together a b ⌝ }
+{
+    Most {
+        vertices: a.vertices + b.vertices,
+        triangles: a.triangles + b.triangles,
+        spans: a.spans + b.spans,
+        entries: a.entries + b.entries,
+    }
 }

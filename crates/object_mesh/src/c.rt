@@ -2,14 +2,15 @@
 ghost use mathlib.Core.Path.{_≡_};
 ghost use Rattle.validation.specs.Numbers.{validationNumbers};
 ghost use Rattle.validation.specs.Validate.{validate};
-ghost use Rattle.scene_mesh.specs.Operations.{lent, measure, build};
-ghost use Rattle.answers.specs.Answers.{answerNumbers};
+ghost use Rattle.scene_mesh.specs.PerBuffer.{entering, leaving};
+ghost use Rattle.scene_mesh.specs.Operations.{measure, build};
+ghost use Rattle.answers.specs.Answers.{answerFrom};
 use answers::Answer;
 use validation::Judgement;
 
 #[no_mangle]
 pub extern "C" fn object_mesh_measure(scene: &[u8]) -> Answer
-    ensures { λ r. ⌜ r ≡ answerNumbers (measure (now (scene .entry))) ⌝ }
+    ensures { λ r. ⌜ answerFrom r ≡ measure (now (scene .entry)) ⌝ }
 {
     measure::measure(scene).numbers()
 }
@@ -24,8 +25,8 @@ pub extern "C" fn object_mesh_build(
     account: &mut [u32],
     log: &mut [u32],
 ) -> Answer
-    ensures answer { λ r. ⌜ r ≡ answerNumbers (build (now (scene .entry)) (lent (now (vertices .entry)) (now (normals .entry)) (now (indices .entry)) (now (spans .entry)) (now (account .entry)) (now (log .entry))) .answer) ⌝ }
-    ensures written { λ r. ⌜ lent (now (vertices .exit)) (now (normals .exit)) (now (indices .exit)) (now (spans .exit)) (now (account .exit)) (now (log .exit)) ≡ build (now (scene .entry)) (lent (now (vertices .entry)) (now (normals .entry)) (now (indices .entry)) (now (spans .entry)) (now (account .entry)) (now (log .entry))) .buffers ⌝ }
+    ensures answer { λ r. ⌜ answerFrom r ≡ build (now (scene .entry)) (entering vertices normals indices spans account log) .answer ⌝ }
+    ensures written { λ r. ⌜ leaving vertices normals indices spans account log ≡ build (now (scene .entry)) (entering vertices normals indices spans account log) .buffers ⌝ }
 {
     build::build(scene, vertices, normals, indices, spans, account, log).numbers()
 }

@@ -23,7 +23,8 @@ use Rattle.shapes.specs.Shapes.{facesOf, logOf}
 use Rattle.progress.specs.declared.Progress.{Progress}
 use Rattle.progress.specs.declared.Starts.{Starts}
 use Rattle.scene_mesh.specs.Mesh.{Span, keptBy, thinBy, accountOf, pieceOf, spanOf, meshFrom, accountsOf, logsOf, spanNumbers, accountRecord, accountNumbers}
-use Rattle.scene_mesh.specs.Operations.{Buffers, lent}
+use Rattle.scene_mesh.specs.PerBuffer.{each, at, numbersFor, Buffers}
+use Rattle.scene_mesh.specs.Operations.{written}
 
 -- before the first object
 abbrev pub beginning : Progress
@@ -106,39 +107,37 @@ passOf p b = record { objects = p .objects; vertices = p .vertices; kept = p .ke
 abbrev pub begun : Buffers → Pass
 begun b = record { objects = 0; vertices = 0; kept = 0; spans = 0; entries = 0; buffers = b }
 
+-- what is written stands in each buffer behind what has been counted; a store past a buffer's end is left out
+abbrev pub storedBehind : Pass → Buffers → Buffers
+storedBehind st w =
+    let from = numbersFor (st .vertices) (st .kept) (st .spans) (st .objects) (st .entries) in
+    each (λ k. sets (at (st .buffers) k) (at from k) (at w k))
+
 -- one object more
 unfoldable pub withObject : Float → Object → Pass → Pass
 withObject limit o st =
     let piece = pieceOf limit (st .vertices) o in
     let spans = spanOf (o .id) (st .vertices) (3 * st .kept) piece in
-    let b = st .buffers in
     record {
       objects = st .objects + 1;
       vertices = st .vertices + length (piece .vertices);
       kept = st .kept + keptBy limit (o .shape);
       spans = st .spans + length spans;
       entries = st .entries + length (logOf (o .shape));
-      buffers =
-          lent (sets (b .vertices) (3 * st .vertices) (vertexNumbers (piece .vertices))) (sets (b .normals) (3 * st .vertices) (normalNumbers (piece .normals)))
-          (sets (b .indices) (3 * st .kept) (piece .indices)) (sets (b .spans) (5 * st .spans) (spanNumbers spans))
-          (sets (b .account) (4 * st .objects) (accountRecord (accountOf limit o))) (sets (b .log) (4 * st .entries) (logNumbers (logOf (o .shape))));
+      buffers = storedBehind st (written (record { vertices = piece .vertices; normals = piece .normals; indices = piece .indices; spans = spans }) (accountOf limit o ∷ []) (logOf (o .shape)));
     }
 
 -- all that are left
 unfoldable pub withObjects : Float → List Object → Pass → Pass
 withObjects limit os st =
     let m = meshFrom limit (st .vertices) (3 * st .kept) os in
-    let b = st .buffers in
     record {
       objects = st .objects + length os;
       vertices = st .vertices + length (m .vertices);
       kept = st .kept + sumOf (λ (o : Object). keptBy limit (o .shape)) os;
       spans = st .spans + length (m .spans);
       entries = st .entries + length (logsOf os);
-      buffers =
-          lent (sets (b .vertices) (3 * st .vertices) (vertexNumbers (m .vertices))) (sets (b .normals) (3 * st .vertices) (normalNumbers (m .normals)))
-          (sets (b .indices) (3 * st .kept) (m .indices)) (sets (b .spans) (5 * st .spans) (spanNumbers (m .spans)))
-          (sets (b .account) (4 * st .objects) (accountNumbers (accountsOf limit os))) (sets (b .log) (4 * st .entries) (logNumbers (logsOf os)));
+      buffers = storedBehind st (written m (accountsOf limit os) (logsOf os));
     }
 
 -- what the counted objects take in each buffer fits the program's counts

@@ -1,6 +1,7 @@
 // How far the pass over the records has come.
 ghost use mathlib.Core.Path.{_≡_};
 ghost use Prim.Native.Nat.{_*_, _<_, _≤_};
+ghost use Rattle.answers.specs.Answers.{countsFrom};
 ghost use Rattle.progress.specs.Pass.{startOf, StartsIn, spansMore, cameTo, advanced, CanAdvance};
 ghost use Rattle.progress.specs.Wrote.{countedBy};
 use answers::Counted;
@@ -97,7 +98,7 @@ pub fn advance(p: Progress, size: usize, d: Drawn) -> Progress
 // The numbers that the objects take in each buffer.
 pub fn count_numbers(p: Progress) -> Counted
     requires { ⌜ (3 * p .vertices < 4294967296) × (3 * p .kept < 4294967296) × (5 * p .spans < 4294967296) × (4 * p .objects < 4294967296) × (4 * p .entries < 4294967296) ⌝ }
-    ensures { λ r. ⌜ r ≡ countedBy p ⌝ }
+    ensures { λ r. ⌜ countsFrom r ≡ countedBy p ⌝ }
 {
     Counted {
         vertices: 3 * p.vertices,

@@ -11,7 +11,8 @@ use Rattle.object.specs.Object.{Object}
 use Rattle.scene.specs.Scene.{Scene, refused, accepted, scene, trailer, countAt}
 use Rattle.scene.proofs.Walk.{AcceptedAs, accepted-scene}
 use Rattle.scene_mesh.specs.Mesh.{keptBy, meshFrom, logsOf}
-use Rattle.scene_mesh.specs.Operations.{Counts, refusedWith, noCounts, output, countsOf, done, measureScene, measure}
+use Rattle.scene_mesh.specs.PerBuffer.{Counts}
+use Rattle.scene_mesh.specs.Operations.{refusedWith, noCounts, output, countsOf, done, measureScene, measure}
 use Rattle.scene_mesh.specs.Demand3.{LongEnough}
 use Rattle.scene_mesh.proofs.MeshSizes.{output-counts}
 use Rattle.quote_room.specs.Room.{objectsMost, roomFor}

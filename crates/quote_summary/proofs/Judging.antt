@@ -13,13 +13,14 @@ use Rattle.scene.specs.Scene.{Scene, refused, accepted, scene, numberOf}
 use Rattle.validation.specs.declared.Validation.{Validation}
 use Rattle.validation.specs.Validate.{validate}
 use Rattle.scene_mesh.specs.Mesh.{Mesh, meshOf, accountsOf, accountNumbers}
-use Rattle.scene_mesh.specs.Operations.{Counts, Answer, Buffers, lent, Built, refusedWith, output, countsOf, done, measureScene, measure, overlay, tooShort, buildOutput, buildScene, build}
+use Rattle.scene_mesh.specs.PerBuffer.{Counts, Buffers, lent}
+use Rattle.scene_mesh.specs.Operations.{Answer, Built, refusedWith, output, countsOf, done, measureScene, measure, overlay, tooShort, buildOutput, buildScene, build}
 use Rattle.scene_mesh.specs.Demand3.{LongEnough}
 use Rattle.scene_mesh.proofs.Demand3.{long-enough}
 use Rattle.scene_mesh.proofs.MeshSizes.{output-counts}
 use Rattle.answers.specs.declared.Answer.{Answer as CAnswer}
 use Rattle.answers.specs.declared.BuiltAnswer.{BuiltAnswer}
-use Rattle.answers.specs.Answers.{builtAnswer, builtWith, answerNumbers, BuiltAndJudged, judged, buildAndValidate}
+use Rattle.answers.specs.Answers.{builtAnswer, builtWith, answerFrom, BuiltAndJudged, judged, buildAndValidate}
 use Rattle.quote_room.specs.Room.{objectsMost, roomFor}
 use Rattle.quote_room.proofs.Enough.{enough}
 use Rattle.quote_lines.specs.Lines.{isOk}
@@ -49,7 +50,7 @@ same-validation os b = let w = output minArea os in ap₂ validate (take-over (w
 
 -- ---- in the numbers that the program reads
 
-numbers-up : (os : List Object) (b : Buffers) (m : Summary) → m ≡ summaryOf (answerNumbers (done (output minArea os))) (judged (whole (accepted os) b) .validation)
+numbers-up : (os : List Object) (b : Buffers) (m : Summary) → m ≡ summaryOf (done (output minArea os)) (judged (whole (accepted os) b) .validation)
     → SummedUp os m (overlay (output minArea os) b .account)
 unfolding done overlay over countsOf output meshOf
 numbers-up os b m e =
@@ -92,16 +93,16 @@ module _ (s : List ℕ) (b : Buffers) (l : length s ≤ 4096) (room : countsOf b
     unfolding buildAndValidate
     both = e ∙ ap judged is-whole
 
-    pub summed : {a : CAnswer} {m : Summary} → a ≡ answerNumbers (r .answer) → m ≡ summaryOf a v → Summed s m (r .buffers .account)
+    pub summed : {a : CAnswer} {m : Summary} → answerFrom a ≡ r .answer → m ≡ summaryOf (answerFrom a) v → Summed s m (r .buffers .account)
     unfolding judged measure
     summed {a} {m} p q =
         let built : r ≡ whole (scene s) b = ap (λ (x : BuiltAndJudged). x .built) both in
-        let n : m ≡ summaryOf (answerNumbers (r .answer)) v = q ∙ ap (λ (x : CAnswer). summaryOf x v) p in
+        let n : m ≡ summaryOf (r .answer) v = q ∙ ap (λ (x : Answer). summaryOf x v) p in
         record {
           refusal = ap (λ (x : Summary). x .refusal) n ∙ ap (λ (x : Built). x .answer .number) built ∙ same-number (scene s) b;
           up = λ os h.
               let w : r ≡ whole (accepted os) b = built ∙ ap (λ (t : Scene). whole t b) h in
               let x : v ≡ judged (whole (accepted os) b) .validation = ap (λ (x : BuiltAndJudged). x .validation) both ∙ ap (λ (t : Scene). judged (whole t b) .validation) h in
               subst (λ (x : Built). SummedUp os m (x .buffers .account)) (sym w)
-              (numbers-up os b m (n ∙ ap₂ (λ (x : Built) (y : Validation). summaryOf (answerNumbers (x .answer)) y) w x));
+              (numbers-up os b m (n ∙ ap₂ (λ (x : Built) (y : Validation). summaryOf (x .answer) y) w x));
         }

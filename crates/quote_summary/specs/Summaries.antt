@@ -8,15 +8,15 @@ use Rattle.object.specs.Object.{Object}
 use Rattle.scene.specs.Scene.{scene, accepted}
 use Rattle.validation.specs.declared.Validation.{Validation}
 use Rattle.scene_mesh.specs.Mesh.{meshOf}
-use Rattle.scene_mesh.specs.Operations.{measure}
-use Rattle.answers.specs.declared.Answer.{Answer}
+use Rattle.scene_mesh.specs.Operations.{Answer, measure}
 use Rattle.quote_lines.specs.Lines.{isOk}
 use Rattle.quote_text.specs.Quote.{validation}
 use Rattle.quote_objects.specs.Accounts.{Accounts}
 use Rattle.quote_summary.specs.declared.Summary.{Summary}
 
 abbrev pub summaryOf : Answer → Validation → Summary
-summaryOf a v = record { refusal = a .refusal; objects = a .account / 4; vertices = a .vertices / 3; indices = a .indices; spans = a .spans / 5; ok = isOk v }
+summaryOf a v =
+    record { refusal = a .number; objects = a .counts .account / 4; vertices = a .counts .vertices / 3; indices = a .counts .indices; spans = a .counts .spans / 5; ok = isOk v }
 
 -- of the objects of an accepted scene
 pub record SummedUp (os : List Object) (m : Summary) (numbers : List ℕ) : Type 0 where

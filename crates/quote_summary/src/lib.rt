@@ -3,6 +3,7 @@
 ghost use mathlib.Core.Path.{_≡_};
 ghost use Prim.Native.Nat.{_≤_};
 ghost use lib.ListN.{length};
+ghost use Rattle.answers.specs.Answers.{answerFrom};
 ghost use Rattle.quote_summary.specs.Summaries.{summaryOf, Summed};
 use answers::Answer;
 use build_and_validate::build_and_validate;
@@ -19,14 +20,15 @@ pub struct Summary {
 }
 
 fn summary_of(a: Answer, v: Validation) -> Summary
-    ensures { λ r. ⌜ r ≡ summaryOf a v ⌝ }
+    ensures { λ r. ⌜ r ≡ summaryOf (answerFrom a) v ⌝ }
 {
+    let c = a.counts;
     Summary {
         refusal: a.refusal,
-        objects: (a.account / 4) as usize,
-        vertices: a.vertices / 3,
-        indices: a.indices,
-        spans: a.spans / 5,
+        objects: (c.account / 4) as usize,
+        vertices: c.vertices / 3,
+        indices: c.indices,
+        spans: c.spans / 5,
         ok: is_ok(v),
     }
 }

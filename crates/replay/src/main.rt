@@ -5,7 +5,7 @@
 ghost use mathlib.Core.Path.{_≡_};
 ghost use Prim.Native.Nat.{_≤_};
 ghost use lib.ListN.{length};
-use answers::Answer;
+use answers::Counted;
 use libc::STDOUT_FILENO;
 use validation::Validation;
 use validation::Verdict;
@@ -147,26 +147,26 @@ fn numbers() -> [u32; 36864]
     [0; 36864]
 }
 
-fn write_counts(a: Answer) {
+fn write_counts(c: Counted) {
     write(b"ok");
-    write_number(a.vertices);
-    write_number(a.normals);
-    write_number(a.indices);
-    write_number(a.spans);
-    write_number(a.account);
-    write_number(a.log);
+    write_number(c.vertices);
+    write_number(c.normals);
+    write_number(c.indices);
+    write_number(c.spans);
+    write_number(c.account);
+    write_number(c.log);
 }
 
-fn write_mesh(a: Answer, vertices: &[f32], normals: &[f32], indices: &[u32]) {
-    write_floats(vertices, place(a.vertices));
-    write_floats(normals, place(a.normals));
-    write_numbers(indices, place(a.indices));
+fn write_mesh(c: Counted, vertices: &[f32], normals: &[f32], indices: &[u32]) {
+    write_floats(vertices, place(c.vertices));
+    write_floats(normals, place(c.normals));
+    write_numbers(indices, place(c.indices));
 }
 
-fn write_records(a: Answer, spans: &[u32], account: &[u32], log: &[u32]) {
-    write_numbers(spans, place(a.spans));
-    write_numbers(account, place(a.account));
-    write_numbers(log, place(a.log));
+fn write_records(c: Counted, spans: &[u32], account: &[u32], log: &[u32]) {
+    write_numbers(spans, place(c.spans));
+    write_numbers(account, place(c.account));
+    write_numbers(log, place(c.log));
 }
 
 // One scene, with buffers for every scene of at most 4,096 bytes.
@@ -193,9 +193,10 @@ fn replay(s: &[u8]) {
         refuse(a.refusal, a.object);
         return;
     }
-    write_counts(a);
-    write_mesh(a, &vertices, &normals, &indices);
-    write_records(a, &spans, &account, &log);
+    let c = a.counts;
+    write_counts(c);
+    write_mesh(c, &vertices, &normals, &indices);
+    write_records(c, &spans, &account, &log);
     write_verdict(validation)
 }
 

@@ -2,7 +2,7 @@
 use mathlib.Core.Bool.{Bool, _||_}
 use lib.Dec.{ltb}
 use Rattle.answers.specs.declared.Counted.{Counted}
-use Rattle.scene_mesh.specs.Operations.{Counts}
+use Rattle.scene_mesh.specs.PerBuffer.{Counts}
 
 module _ (has : Counts) (needs : Counted) where
   abbrev pub noVertices : Bool

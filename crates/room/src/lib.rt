@@ -8,21 +8,29 @@ use answers::BuiltAnswer;
 use answers::Counted;
 use answers::Lengths;
 use most::Most;
+use most::add;
 
-// The numbers that n objects take in each buffer, by what the two parts of them come to.
+// The numbers that n objects take in each buffer, which come to so much.
+pub fn numbers_of(m: Most, n: u32) -> Counted
+    requires { ⌜ Few m 33554432 131072 × (n ≤ 65536) ⌝ }
+    ensures { λ r. ⌜ countsFrom r ≡ numbersOf m n ⌝ }
+{
+    Counted {
+        vertices: 3 * m.vertices,
+        normals: 3 * m.vertices,
+        indices: 3 * m.triangles,
+        spans: 5 * m.spans,
+        account: 4 * n,
+        log: 4 * m.entries,
+    }
+}
+
+// By what the two parts of them come to.
 pub fn bound_counts(others: Most, lids: Most, n: u32) -> Counted
     requires { ⌜ Few others 16777216 65536 × Few lids 16777216 65536 × (n ≤ 65536) ⌝ }
     ensures { λ r. ⌜ countsFrom r ≡ numbersOf (together others lids) n ⌝ }
 {
-    let vertices = others.vertices + lids.vertices;
-    Counted {
-        vertices: 3 * vertices,
-        normals: 3 * vertices,
-        indices: 3 * (others.triangles + lids.triangles),
-        spans: 5 * (others.spans + lids.spans),
-        account: 4 * n,
-        log: 4 * (others.entries + lids.entries),
-    }
+    numbers_of(add(others, lids), n)
 }
 
 // Whether a buffer that holds `has` numbers is too short for n.

@@ -3,7 +3,7 @@ use lib.Ieee.{ofInt, toBits}
 use Rattle.scene_mesh.specs.Mesh.{keptBy, thinBy, accountOf, pieceOf, spanOf, addPiece, meshFrom, meshOf, accountsOf, logsOf, spanNumbers, accountNumbers, spansIn, accountsIn}
 use Rattle.scene_mesh.specs.Operations.{noCounts, refusedWith, output, countsOf, done, measureScene, measure, tooShort, overlay, buildOutput, buildScene, build}
 use Rattle.scene_mesh.specs.Demand3.{keptCorners, indicesIn, measured}
-use Rattle.scene_mesh.specs.Samples.{bytesOf, f32Bytes, head, onePair, solidBytes, solidAtX, cornerBytes, outlineBytes, thinBytes, offsetsFrom, sceneBytes, same, objectsIn}
+use Rattle.scene_mesh.specs.Samples.{bytesOf, f32Bytes, head, onePair, solidBytes, solidAtX, cornerBytes, outlineBytes, thinBytes, offsetsFrom, sceneBytes, same, objectsIn, filled, wordsOf, atAll, sameWords, sameCounts}
 use Rattle.lists.proofs.Computes.{computes as lists-computes}
 use Rattle.float.proofs.Computes.{computes as float-computes}
 use Rattle.coords.proofs.Computes.{computes as coords-computes}
@@ -17,7 +17,7 @@ use Rattle.shapes.proofs.Computes.{computes as shapes-computes}
 use Rattle.validation.proofs.Computes.{computes as validation-computes}
 
 unfoldable pub computes : Unit {0}
-unfolding ofInt toBits keptBy thinBy accountOf pieceOf spanOf addPiece meshFrom meshOf accountsOf logsOf spanNumbers accountNumbers spansIn accountsIn noCounts refusedWith output countsOf done measureScene measure tooShort overlay buildOutput buildScene build keptCorners indicesIn measured bytesOf f32Bytes head onePair solidBytes solidAtX cornerBytes outlineBytes thinBytes offsetsFrom sceneBytes same objectsIn
+unfolding ofInt toBits keptBy thinBy accountOf pieceOf spanOf addPiece meshFrom meshOf accountsOf logsOf spanNumbers accountNumbers spansIn accountsIn noCounts refusedWith output countsOf done measureScene measure tooShort overlay buildOutput buildScene build keptCorners indicesIn measured bytesOf f32Bytes head onePair solidBytes solidAtX cornerBytes outlineBytes thinBytes offsetsFrom sceneBytes same objectsIn filled wordsOf atAll sameWords sameCounts
 computes = tt
 
 unfoldable pub all : Unit {0}

@@ -5,10 +5,12 @@ pub mod Records
 pub mod Spans
 pub mod Verdict
 use mathlib.Core.Path.{_≡_, refl, sym, _∙_, ap, subst, subst₂}
+use mathlib.Core.Bool.{false}
 use mathlib.Core.List.{List}
 use Prim.Native.Nat.{ℕ, _/_}
 use native.Mathlib.Omega.{arith}
 use lib.ListN.{length}
+use lib.Dec.{ltb}
 use lib.Ieee.{Float}
 use borrow.Author.Tests.{le-ltb}
 use Rattle.lists.specs.Each.{Each, Pairwise}
@@ -20,7 +22,8 @@ use Rattle.scene.specs.Scene.{Scene, accepted, scene}
 use Rattle.lid.specs.Log.{Entry}
 use Rattle.scene_mesh.specs.Demand3.{AccountHolds, AreasFollow, SpansFollow, EndToEnd, LongEnough, measured, Demand3Of, Demand3}
 use Rattle.scene_mesh.specs.Mesh.{Span, Account, accountsOf, logsOf, meshOf}
-use Rattle.scene_mesh.specs.Operations.{Counts, Buffers, countsOf, output, done, tooShort, measureScene, measure, buildOutput, buildScene, build}
+use Rattle.scene_mesh.specs.PerBuffer.{PerBuffer, each, at, Counts, Buffers}
+use Rattle.scene_mesh.specs.Operations.{countsOf, output, done, tooShort, measureScene, measure, buildOutput, buildScene, build}
 use Rattle.coords.proofs.Buffers.{vertices-size, vertices-back}
 use Rattle.coords.proofs.Turned.{Above, min-above}
 use Rattle.object.proofs.Near.{NearShape}
@@ -54,7 +57,8 @@ written-holds limit above os near =
 pub long-enough : (has needs : Counts) → LongEnough has needs → tooShort has needs ≡ 0
 unfolding tooShort
 long-enough has needs l =
-    rw (le-ltb (has .vertices) (needs .vertices) (l .vertices), le-ltb (has .normals) (needs .normals) (l .normals), le-ltb (has .indices) (needs .indices) (l .indices), le-ltb (has .spans) (needs .spans) (l .spans), le-ltb (has .account) (needs .account) (l .account), le-ltb (has .log) (needs .log) (l .log))
+    let fits : PerBuffer (λ k. ltb (at has k) (at needs k) ≡ false) = each (λ k. le-ltb (at has k) (at needs k) (at l k)) in
+    rw (fits .vertices, fits .normals, fits .indices, fits .spans, fits .account, fits .log)
 
 built : (written b : Buffers) (n : ℕ) → n ≡ 0 → measured (countsOf written) (buildOutput written b n .buffers) ≡ written
 unfolding buildOutput

@@ -14,7 +14,8 @@ use Rattle.face.proofs.Draws.{normals-size}
 use Rattle.lid.specs.Log.{entryRecord, logNumbers}
 use Rattle.shapes.specs.Shapes.{facesOf}
 use Rattle.scene_mesh.specs.Mesh.{keptBy, accountOf, pieceOf, addPiece, meshFrom, meshOf, accountsOf, logsOf, spanRecord, spanNumbers, accountRecord, accountNumbers}
-use Rattle.scene_mesh.specs.Operations.{Counts, output, countsOf}
+use Rattle.scene_mesh.specs.PerBuffer.{numbersFor}
+use Rattle.scene_mesh.specs.Operations.{output, countsOf}
 use Rattle.scene_mesh.proofs.Demand3.Spans.{piece-size}
 
 module _ (limit : Float) where
@@ -40,9 +41,7 @@ module _ (limit : Float) where
 
   pub output-counts : (os : List Object)
       → let m = meshFrom limit 0 0 os in
-      _≡_ {A = Counts}
-      (record { vertices = 3 * length (m .vertices); normals = 3 * length (m .vertices); indices = 3 * sumOf (λ (o : Object). keptBy limit (o .shape)) os; spans = 5 * length (m .spans); account = 4 * length os; log = 4 * length (logsOf os) })
-      (countsOf (output limit os))
+      numbersFor (length (m .vertices)) (sumOf (λ (o : Object). keptBy limit (o .shape)) os) (length (m .spans)) (length os) (length (logsOf os)) ≡ countsOf (output limit os)
   unfolding output countsOf meshOf accountsOf normalNumbers spanNumbers accountNumbers logNumbers
   output-counts os =
       let m = meshFrom limit 0 0 os in

@@ -11,7 +11,8 @@ use Rattle.object.specs.Object.{Object}
 use Rattle.scene.specs.Scene.{accepted, scene}
 use Rattle.scene_mesh.specs.Demand3.{LongEnough, measured}
 use Rattle.scene_mesh.specs.Mesh.{meshOf}
-use Rattle.scene_mesh.specs.Operations.{Buffers, countsOf, output, measure, build}
+use Rattle.scene_mesh.specs.PerBuffer.{Buffers}
+use Rattle.scene_mesh.specs.Operations.{countsOf, output, measure, build}
 use Rattle.float.proofs.Within.{Within}
 use Rattle.coords.proofs.Near.{NearP}
 use Rattle.coords.proofs.Turned.{min-above}

@@ -24,7 +24,8 @@ use Rattle.validation.specs.declared.Validation.the-variants.{Judged}
 use Rattle.validation.specs.declared.Verdict.the-variants.{Ok, Empty}
 use Rattle.validation.specs.Validate.{validateAt}
 use Rattle.scene_mesh.specs.Mesh.{Span, Account, spansIn, accountsIn, keptBy, thinBy, logsOf}
-use Rattle.scene_mesh.specs.Operations.{Counts, Buffers, countsOf, measure, build}
+use Rattle.scene_mesh.specs.PerBuffer.{PerBuffer, each, at, Counts, Buffers}
+use Rattle.scene_mesh.specs.Operations.{countsOf, measure, build}
 
 -- ---- the account
 
@@ -99,17 +100,11 @@ pub record Demand3Of (limit : Float) (os : List Object) (mesh : Buffers) : Type 
 
 -- the measured first part of each buffer
 unfoldable pub measured : Counts → Buffers → Buffers
-measured c b =
-    record { vertices = take (c .vertices) (b .vertices); normals = take (c .normals) (b .normals); indices = take (c .indices) (b .indices); spans = take (c .spans) (b .spans); account = take (c .account) (b .account); log = take (c .log) (b .log) }
+measured c b = each (λ k. take (at c k) (at b k))
 
--- each buffer has room for what is measured
-pub record LongEnough (has needs : Counts) : Type 0 where
-  pub vertices : needs .vertices ≤ has .vertices
-  pub normals : needs .normals ≤ has .normals
-  pub indices : needs .indices ≤ has .indices
-  pub spans : needs .spans ≤ has .spans
-  pub account : needs .account ≤ has .account
-  pub log : needs .log ≤ has .log
+-- each of the six buffers has room for what is measured
+abbrev pub LongEnough : Counts → Counts → Type 0
+LongEnough has needs = PerBuffer (λ k. at needs k ≤ at has k)
 
 -- for every accepted scene, with buffers long enough and whatever they held before
 abbrev pub Demand3 : Type 0

@@ -1,3 +1,4 @@
+pub mod PerBuffer
 pub mod Mesh
 pub mod Operations
 pub mod Demand3

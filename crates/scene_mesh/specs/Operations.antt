@@ -11,50 +11,31 @@ use Rattle.float.specs.Number.{minArea}
 use Rattle.coords.specs.Buffers.{vertexNumbers, normalNumbers}
 use Rattle.object.specs.Object.{Object}
 use Rattle.scene.specs.Scene.{Scene, refused, accepted, scene, numberOf}
-use Rattle.lid.specs.Log.{logNumbers}
-use Rattle.scene_mesh.specs.Mesh.{meshOf, accountsOf, logsOf, spanNumbers, accountNumbers}
-
--- how many numbers each buffer gets
-pub record Counts : Type 0 where
-  pub vertices : ℕ
-  pub normals : ℕ
-  pub indices : ℕ
-  pub spans : ℕ
-  pub account : ℕ
-  pub log : ℕ
+use Rattle.lid.specs.Log.{Entry, logNumbers}
+use Rattle.scene_mesh.specs.PerBuffer.{each, at, Counts, Buffers, lent}
+use Rattle.scene_mesh.specs.Mesh.{Account, Mesh, meshOf, accountsOf, logsOf, spanNumbers, accountNumbers}
 
 pub record Answer : Type 0 where
   pub number : ℕ
   pub object : ℕ
   pub counts : Counts
 
--- the contents of the lent buffers
-pub record Buffers : Type 0 where
-  pub vertices : List Float
-  pub normals : List Float
-  pub indices : List ℕ
-  pub spans : List ℕ
-  pub account : List ℕ
-  pub log : List ℕ
-
--- the six lent buffers in the order of a call
-abbrev pub lent : List Float → List Float → List ℕ → List ℕ → List ℕ → List ℕ → Buffers
-lent vs ns is ss accounts ls = record { vertices = vs; normals = ns; indices = is; spans = ss; account = accounts; log = ls }
-
 unfoldable pub noCounts : Counts
-noCounts = record { vertices = 0; normals = 0; indices = 0; spans = 0; account = 0; log = 0 }
+noCounts = each (λ k. 0)
 
 unfoldable pub refusedWith : ℕ → ℕ → Answer
 refusedWith number object = record { number = number; object = object; counts = noCounts }
 
+-- a mesh, accounts and a log as numbers
+abbrev pub written : Mesh → List Account → List Entry → Buffers
+written m accounts log = lent (vertexNumbers (m .vertices)) (normalNumbers (m .normals)) (m .indices) (spanNumbers (m .spans)) (accountNumbers accounts) (logNumbers log)
+
 -- all that is written for a list of objects
 unfoldable pub output : Float → List Object → Buffers
-output limit os =
-    let m = meshOf limit os in
-    record { vertices = vertexNumbers (m .vertices); normals = normalNumbers (m .normals); indices = m .indices; spans = spanNumbers (m .spans); account = accountNumbers (accountsOf limit os); log = logNumbers (logsOf os) }
+output limit os = written (meshOf limit os) (accountsOf limit os) (logsOf os)
 
 unfoldable pub countsOf : Buffers → Counts
-countsOf b = record { vertices = length (b .vertices); normals = length (b .normals); indices = length (b .indices); spans = length (b .spans); account = length (b .account); log = length (b .log) }
+countsOf b = each (λ k. length (at b k))
 
 unfoldable pub done : Buffers → Answer
 done written = record { number = 0; object = 0; counts = countsOf written }
@@ -80,8 +61,7 @@ tooShort has needs =
 
 -- the buffers with what is written over their first parts
 unfoldable pub overlay : Buffers → Buffers → Buffers
-overlay written b =
-    record { vertices = over (written .vertices) (b .vertices); normals = over (written .normals) (b .normals); indices = over (written .indices) (b .indices); spans = over (written .spans) (b .spans); account = over (written .account) (b .account); log = over (written .log) (b .log) }
+overlay written b = each (λ k. over (at written k) (at b k))
 
 -- an answer, and what the buffers hold after the call
 pub record Built : Type 0 where

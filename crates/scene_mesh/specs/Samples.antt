@@ -1,14 +1,16 @@
--- Scenes as bytes, and lists compared, for the tests that are computed on the definitions.
+-- Scenes as bytes, buffers filled, and lists and buffers compared, for the tests that are computed on the definitions.
 use Prim.Native.Nat.{ℕ, zero, suc, _+_, _/_, _%_}
 use mathlib.Core.Bool.{Bool, true, false, _&&_}
-use mathlib.Core.List.{List, [], _∷_, _++_}
+use mathlib.Core.List.{List, [], _∷_, _++_, map}
 use lib.ListN.{length, replicate}
 use lib.Dec.{eqb}
 use lib.IntN.{ℤ, pos}
-use lib.Ieee.{binary32, toBits, ofInt}
+use lib.Ieee.{Float, binary32, toBits, ofInt}
 use Rattle.lists.specs.Loops.{join}
 use Rattle.object.specs.Object.{Object}
 use Rattle.scene.specs.Scene.{Scene, refused, accepted}
+use Rattle.scene_mesh.specs.PerBuffer.{Buffer, Element, PerBuffer, each, at, Counts, Buffers, lent}
+use Rattle.scene_mesh.specs.PerBuffer.Buffer.{vertices, normals, indices, spans, account, log}
 
 -- ---- scenes as bytes
 
@@ -76,3 +78,31 @@ same (x ∷ xs) (y ∷ ys) = let rest = same xs ys in eqb x y && rest
 unfoldable pub objectsIn : Scene → List Object
 objectsIn (refused r o) = []
 objectsIn (accepted os) = os
+
+-- ---- buffers filled and compared
+
+-- buffers of these sizes that hold one float and one number
+unfoldable pub filled : Float → ℕ → Counts → Buffers
+filled x n c =
+    lent (replicate (c .vertices) x) (replicate (c .normals) x) (replicate (c .indices) n) (replicate (c .spans) n) (replicate (c .account) n) (replicate (c .log) n)
+
+-- what a buffer holds, in words: a float's bits
+abbrev pub word : (k : Buffer) → Element k → ℕ
+word vertices x = toBits binary32 x
+word normals x = toBits binary32 x
+word indices n = n
+word spans n = n
+word account n = n
+word log n = n
+
+unfoldable pub wordsOf : Buffers → PerBuffer (λ k. List ℕ)
+wordsOf b = each (λ k. map (word k) (at b k))
+
+unfoldable pub atAll : PerBuffer (λ k. Bool) → Bool
+atAll x = x .vertices && x .normals && x .indices && x .spans && x .account && x .log
+
+unfoldable pub sameWords : PerBuffer (λ k. List ℕ) → PerBuffer (λ k. List ℕ) → Bool
+sameWords a b = atAll (each (λ k. same (at a k) (at b k)))
+
+unfoldable pub sameCounts : Counts → Counts → Bool
+sameCounts a b = atAll (each (λ k. eqb (at a k) (at b k)))

@@ -11,11 +11,12 @@ ghost use Rattle.scene.specs.Scene.{scene, accepted};
 ghost use Rattle.scene.specs.Answers.{checkedOf};
 ghost use Rattle.scene.specs.Headers.{shapeOf, Limits};
 ghost use Rattle.shapes.specs.Drawn.{CanDraw};
-ghost use Rattle.most.specs.Most.{mostOf, exactOf, hasLid, inPart, partOf, together, partOfAll, Few};
+ghost use Rattle.most.specs.Most.{mostOf, exactOf, hasLid, inPart, partOf, partOfAll, Few};
 use answers::min_area;
 use headers::header_at;
 use hole_counts::sum_counts;
 use most::Most;
+use most::add;
 use most::of_shape;
 use most::outline_most;
 use most::solid_most;
@@ -102,18 +103,6 @@ fn bound_at(s: &[u8], i: usize, body: Body, lids: bool, exact: bool) -> Most
         return exact_at(s, i, body);
     }
     most_at(s, i, body)
-}
-
-fn add(a: Most, b: Most) -> Most
-    requires { ⌜ Few (together a b) 33554432 131072 ⌝ }
-    ensures { λ r. ⌜ r ≡ together a b ⌝ }
-{
-    Most {
-        vertices: a.vertices + b.vertices,
-        triangles: a.triangles + b.triangles,
-        spans: a.spans + b.spans,
-        entries: a.entries + b.entries,
-    }
 }
 
 // Those of the n objects that have lids, or the others: measured, or the most.

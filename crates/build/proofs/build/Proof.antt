@@ -1,7 +1,8 @@
 -- `build::build` meets its contract. Assumes nothing.
 use mathlib.Core.Path.{refl}
 use borrow.Author.Needs.{needs}
-use Rattle.scene_mesh.specs.Operations.{lent, countsOf}
+use Rattle.scene_mesh.specs.PerBuffer.{lent}
+use Rattle.scene_mesh.specs.Operations.{countsOf}
 use Rattle.build.proofs.Built.{can-write, built-planned}
 use Rattle.build.proofs.build.Statement.{statement}
 use Rattle.build.proofs.build.Tie as tie

@@ -10,7 +10,7 @@ use lib.ListN.{length}
 use lib.Seq.{sets}
 use lib.Ieee.{Float}
 use borrow.Author.Tests.{eq-eqb, ne-eqb}
-use Rattle.lists.specs.Loops.{sumOf}
+use Rattle.lists.specs.Loops.{join, sumOf}
 use Rattle.coords.specs.Buffers.{vertexNumbers, normalNumbers}
 use Rattle.object.specs.Object.{Shape, Object}
 use Rattle.scene.specs.declared.headers.Header.{Header}
@@ -26,8 +26,8 @@ use Rattle.shapes.specs.Price.{offered}
 use Rattle.shapes.specs.Stages.{lastOf}
 use Rattle.shapes.proofs.Stages.{stages-faces}
 use Rattle.progress.specs.declared.Progress.{Progress}
-use Rattle.scene_mesh.specs.Operations.{lent}
-use Rattle.scene_mesh.specs.Mesh.{Span, keptBy, thinBy, accountOf, pieceOf, spanOf, spanNumbers}
+use Rattle.scene_mesh.specs.PerBuffer.{lent}
+use Rattle.scene_mesh.specs.Mesh.{Span, keptBy, thinBy, accountOf, pieceOf, spanOf, spanNumbers, accountNumbers}
 use Rattle.progress.specs.Pass.{startOf, spanBy, Came, cameTo, accountBy, spansMore, advanced, CanAdvance, drawnOf, DrewBehind, passOf, withObject, Fits, CanAdd, AddedObject}
 use Rattle.scene_mesh.proofs.Demand3.Spans.{piece-size}
 use Rattle.progress.proofs.Pass.Tails.{tailOf, backOf, lent-back}
@@ -144,7 +144,7 @@ module _ (limit : Float) (s : List ℕ) (p : Progress) (vs ns : List Float) (is 
   added-by : h ≡ headerAt s (p .at) → DrewBehind limit (shapeOf s (p .at + 5) (headerAt s (p .at) .body)) p d vs ns is ls vs′ ns′ is′ ls′
       → ss′ ≡ sets ss (5 * p .spans) (spanNumbers (spanBy (headerAt s (p .at) .id) p (d .tally))) → accounts′ ≡ sets accounts (4 * p .objects) (accountBy d) → r ≡ advanced p (h .size) d
       → passOf r (lent vs′ ns′ is′ ss′ accounts′ ls′) ≡ withObject limit (objectOf s (p .at) (headerAt s (p .at))) (passOf p (lent vs ns is ss accounts ls))
-  unfolding withObject pieceOf accountOf drawnOf
+  unfolding withObject pieceOf accountOf drawnOf accountNumbers join
   added-by e w x y z =
       let H = headerAt s (p .at) in
       let o = objectOf s (p .at) H in

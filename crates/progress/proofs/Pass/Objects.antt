@@ -15,9 +15,11 @@ use Rattle.lid.specs.Log.{entryRecord, logNumbers}
 use Rattle.shapes.specs.Shapes.{logOf}
 use Rattle.progress.specs.declared.Progress.{Progress}
 use Rattle.scene_mesh.specs.Mesh.{Mesh, keptBy, accountOf, pieceOf, spanOf, addPiece, meshFrom, meshOf, accountsOf, logsOf, spanRecord, spanNumbers, accountRecord, accountNumbers}
-use Rattle.scene_mesh.specs.Operations.{Buffers, lent, output, countsOf}
-use Rattle.progress.specs.Pass.{Pass, passOf, begun, withObject, withObjects, Fits}
+use Rattle.scene_mesh.specs.PerBuffer.{numbersFor, Buffers}
+use Rattle.scene_mesh.specs.Operations.{written, output, countsOf}
+use Rattle.progress.specs.Pass.{Pass, passOf, begun, storedBehind, withObject, withObjects, Fits}
 use Rattle.progress.specs.Wrote.{countedBy, stored, WroteAll, FitCounts}
+use Rattle.answers.specs.declared.Counted.{Counted}
 use Rattle.answers.specs.Answers.{countsFrom}
 use Rattle.scene_mesh.proofs.Demand3.Spans.{piece-size}
 use Rattle.scene_mesh.proofs.MeshSizes.{piece-normals, output-counts}
@@ -36,49 +38,22 @@ module _ (limit : Float) where
     buffers = st .buffers;
   }
 
-  -- an object and those behind it, whose mesh is m
-  abbrev firstAnd : Object → List Object → Mesh → Pass → Pass
-  firstAnd o os m st =
-      let piece = pieceOf limit (st .vertices) o in
-      let spans = spanOf (o .id) (st .vertices) (3 * st .kept) piece in
-      let b = st .buffers in
+  -- objects whose mesh is m
+  abbrev withMesh : List Object → Mesh → Pass → Pass
+  withMesh os m st =
       record {
-        objects = st .objects + 1 + length os;
-        vertices = st .vertices + length (piece .vertices) + length (m .vertices);
-        kept = st .kept + keptBy limit (o .shape) + sumOf (λ (o : Object). keptBy limit (o .shape)) os;
-        spans = st .spans + length spans + length (m .spans);
-        entries = st .entries + length (logOf (o .shape)) + length (logsOf os);
-        buffers =
-            lent (sets (sets (b .vertices) (3 * st .vertices) (vertexNumbers (piece .vertices))) (3 * (st .vertices + length (piece .vertices))) (vertexNumbers (m .vertices)))
-            (sets (sets (b .normals) (3 * st .vertices) (normalNumbers (piece .normals))) (3 * (st .vertices + length (piece .vertices))) (normalNumbers (m .normals)))
-            (sets (sets (b .indices) (3 * st .kept) (piece .indices)) (3 * (st .kept + keptBy limit (o .shape))) (m .indices))
-            (sets (sets (b .spans) (5 * st .spans) (spanNumbers spans)) (5 * (st .spans + length spans)) (spanNumbers (m .spans)))
-            (sets (sets (b .account) (4 * st .objects) (accountRecord (accountOf limit o))) (4 * (st .objects + 1)) (accountNumbers (accountsOf limit os)))
-            (sets (sets (b .log) (4 * st .entries) (logNumbers (logOf (o .shape)))) (4 * (st .entries + length (logOf (o .shape)))) (logNumbers (logsOf os)));
+        objects = st .objects + length os;
+        vertices = st .vertices + length (m .vertices);
+        kept = st .kept + sumOf (λ (o : Object). keptBy limit (o .shape)) os;
+        spans = st .spans + length (m .spans);
+        entries = st .entries + length (logsOf os);
+        buffers = storedBehind st (written m (accountsOf limit os) (logsOf os));
       }
-
-  first-is : (o : Object) (os : List Object) (st : Pass) (i : ℕ) → i ≡ 3 * st .kept + length (pieceOf limit (st .vertices) o .indices)
-      → firstAnd o os (meshFrom limit (st .vertices + length (pieceOf limit (st .vertices) o .vertices)) i os) st
-      ≡ firstAnd o os (meshFrom limit (st .vertices + length (pieceOf limit (st .vertices) o .vertices)) (3 * st .kept + length (pieceOf limit (st .vertices) o .indices)) os) st
-  first-is o os st i e = ap (λ (j : ℕ). firstAnd o os (meshFrom limit (st .vertices + length (pieceOf limit (st .vertices) o .vertices)) j os) st) e
 
   joined : (o : Object) (os : List Object) (m : Mesh) (st : Pass)
       → let piece = pieceOf limit (st .vertices) o in
-      let a = addPiece piece (spanOf (o .id) (st .vertices) (3 * st .kept) piece) m in
-      let b = st .buffers in
-      firstAnd o os m st
-      ≡ record {
-        objects = st .objects + suc (length os);
-        vertices = st .vertices + length (a .vertices);
-        kept = st .kept + (keptBy limit (o .shape) + sumOf (λ (o : Object). keptBy limit (o .shape)) os);
-        spans = st .spans + length (a .spans);
-        entries = st .entries + length (logOf (o .shape) ++ logsOf os);
-        buffers =
-            lent (sets (b .vertices) (3 * st .vertices) (vertexNumbers (a .vertices))) (sets (b .normals) (3 * st .vertices) (normalNumbers (a .normals)))
-            (sets (b .indices) (3 * st .kept) (a .indices)) (sets (b .spans) (5 * st .spans) (spanNumbers (a .spans)))
-            (sets (b .account) (4 * st .objects) (accountRecord (accountOf limit o) ++ accountNumbers (accountsOf limit os))) (sets (b .log) (4 * st .entries) (logNumbers (logOf (o .shape) ++ logsOf os)));
-      }
-  unfolding addPiece vertexNumbers normalNumbers spanNumbers logNumbers
+      withMesh os m (withObject limit o st) ≡ withMesh (o ∷ os) (addPiece piece (spanOf (o .id) (st .vertices) (3 * st .kept) piece) m) st
+  unfolding withObject addPiece accountsOf logsOf join sumOf vertexNumbers normalNumbers spanNumbers accountNumbers logNumbers
   joined o os m st =
       let v = st .vertices in
       let k = st .kept in
@@ -110,12 +85,12 @@ module _ (limit : Float) where
       }
 
   pub objects-next : (o : Object) (os : List Object) (st : Pass) → withObjects limit os (withObject limit o st) ≡ withObjects limit (o ∷ os) st
-  unfolding withObjects withObject meshFrom accountsOf logsOf join sumOf accountNumbers
+  unfolding withObjects withObject meshFrom
   objects-next o os st =
       let v = st .vertices in
       let piece = pieceOf limit v o in
       let e : 3 * (st .kept + keptBy limit (o .shape)) ≡ 3 * st .kept + length (piece .indices) = let l = piece-size limit v o in omega arith in
-      first-is o os st (3 * (st .kept + keptBy limit (o .shape))) e
+      ap (λ (j : ℕ). withMesh os (meshFrom limit (v + length (piece .vertices)) j os) (withObject limit o st)) e
       ∙ joined o os (meshFrom limit (v + length (piece .vertices)) (3 * st .kept + length (piece .indices)) os) st
 
   -- objects behind others
@@ -158,20 +133,13 @@ module _ (limit : Float) where
   -- ---- what is counted in the end
 
   module _ (os : List Object) (p : Progress) (b b′ : Buffers) (e : passOf p b′ ≡ withObjects limit os (begun b)) where
-    counts-are : countsFrom (countedBy p) ≡ countsOf (output limit os)
+    counts-are : countedBy p ≡ countsOf (output limit os)
     unfolding withObjects
-    counts-are =
-        let m = meshFrom limit 0 0 os in
-        let v : p .vertices ≡ length (m .vertices) = ap (λ (st : Pass). st .vertices) e ∙ zero-add _ in
-        let k : p .kept ≡ sumOf (λ (o : Object). keptBy limit (o .shape)) os = ap (λ (st : Pass). st .kept) e ∙ zero-add _ in
-        let s : p .spans ≡ length (m .spans) = ap (λ (st : Pass). st .spans) e ∙ zero-add _ in
-        let n : p .objects ≡ length os = ap (λ (st : Pass). st .objects) e ∙ zero-add _ in
-        let l : p .entries ≡ length (logsOf os) = ap (λ (st : Pass). st .entries) e ∙ zero-add _ in
-        (λ i. record { vertices = 3 * v i; normals = 3 * v i; indices = 3 * k i; spans = 5 * s i; account = 4 * n i; log = 4 * l i }) ∙ output-counts limit os
+    counts-are = ap (λ (st : Pass). numbersFor (st .vertices) (st .kept) (st .spans) (st .objects) (st .entries)) e ∙ (simp zero-add (output-counts limit os))
 
-    pub wrote-all : WroteAll limit os (countedBy p) b b′
+    pub wrote-all : {c : Counted} → countsFrom c ≡ countedBy p → WroteAll limit os c b b′
     unfolding withObjects stored output meshOf
-    wrote-all = record { counts = counts-are; buffers = ap (λ (st : Pass). st .buffers) e }
+    wrote-all h = record { counts = h ∙ counts-are; buffers = ap (λ (st : Pass). st .buffers) e }
 
 -- what the numbers in the buffers tell of the objects' counts
 pub counts-fit : (limit : Float) (os : List Object) (b : Buffers) → FitCounts (countsOf (output limit os)) → Fits (withObjects limit os (begun b))

@@ -13,9 +13,11 @@ use Rattle.scene.specs.Answers.{checkedOf, objectsOf}
 use Rattle.scene.specs.Headers.{headerAt, objectOf}
 use Rattle.scene.proofs.Walk.{Walking, walk-object, walk-next, walk-limits, walk-inside, AcceptedAs, checked-accepted, trailer-inside}
 use Rattle.answers.specs.declared.Counted.{Counted}
+use Rattle.answers.specs.Answers.{countsFrom}
 use Rattle.progress.specs.declared.Progress.{Progress}
 use Rattle.progress.specs.Wrote.{countedBy, WroteAll}
-use Rattle.scene_mesh.specs.Operations.{Buffers, lent, countsOf}
+use Rattle.scene_mesh.specs.PerBuffer.{Buffers, lent}
+use Rattle.scene_mesh.specs.Operations.{countsOf}
 use Rattle.progress.specs.Pass.{beginning, Pass, passOf, withObject, withObjects, Fits, CanAdd, AddedObject, CanAddAll, AddedAll}
 use Rattle.progress.proofs.Pass.Objects.{objects-none, objects-next, object-lengths, fewer-fit, other-buffers, wrote-all}
 
@@ -134,5 +136,5 @@ added-fits limit s n {p} {b} h c a =
     let q = checked-accepted s n h in
     subst Fits (sym (a (objectsOf (scene s)) (q .is) .pass)) (c (objectsOf (scene s)) b (q .is))
 
-pub added-wrote : {limit : Float} {os : List Object} {p : Progress} {b b′ : Buffers} {c : Counted} → c ≡ countedBy p → AddedAll limit os beginning p b b′ → WroteAll limit os c b b′
-added-wrote {limit} {os} {p} {b} {b′} e a = subst (λ (c : Counted). WroteAll limit os c b b′) (sym e) (wrote-all limit os p b b′ (a .pass))
+pub added-wrote : {limit : Float} {os : List Object} {p : Progress} {b b′ : Buffers} {c : Counted} → countsFrom c ≡ countedBy p → AddedAll limit os beginning p b b′ → WroteAll limit os c b b′
+added-wrote {limit} {os} {p} {b} {b′} e a = wrote-all limit os p b b′ (a .pass) e

@@ -7,7 +7,7 @@ use Rattle.quote_summary.proofs.summary_of.Statement.{statement}
 use Rattle.quote_summary.proofs.summary_of.Tie as tie
 
 returns : tie.Need-returns
-returns c = let a = c .before .before .before .before .args .a in ap (λ (b : Bool). record { refusal = a .refusal; objects = a .account / 4; vertices = a .vertices / 3; indices = a .indices; spans = a .spans / 5; ok = b }) (c .is-ok .ensures)
+returns c = let a = c .before .before .before .before .before .args .a in ap (λ (b : Bool). record { refusal = a .refusal; objects = a .counts .account / 4; vertices = a .counts .vertices / 3; indices = a .counts .indices; spans = a .counts .spans / 5; ok = b }) (c .is-ok .ensures)
 
 pub summary-of-spec : {M : Type 1} → statement M
 summary-of-spec =

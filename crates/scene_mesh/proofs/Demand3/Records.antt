@@ -6,21 +6,15 @@ use native.Mathlib.Omega.{arith}
 use lib.Dec.{lit<}
 use Rattle.scene_mesh.specs.Demand3.{measured}
 use Rattle.scene_mesh.specs.Mesh.{Span, Account, spanRecord, spanNumbers, spanAt, spansIn, accountRecord, accountNumbers, accountAt, accountsIn}
-use Rattle.scene_mesh.specs.Operations.{Buffers, countsOf, overlay}
+use Rattle.scene_mesh.specs.PerBuffer.{each, at, Buffers}
+use Rattle.scene_mesh.specs.Operations.{countsOf, overlay}
 use Rattle.lists.proofs.Buffers.{take-over, Reads, records-back, past}
 
 -- ---- the measured first part of a buffer is what was written, whatever the buffer held
 
 pub measured-is-written : (written b : Buffers) → measured (countsOf written) (overlay written b) ≡ written
 unfolding measured countsOf overlay
-measured-is-written w b = λ i. record {
-  vertices = take-over (w .vertices) (b .vertices) i;
-  normals = take-over (w .normals) (b .normals) i;
-  indices = take-over (w .indices) (b .indices) i;
-  spans = take-over (w .spans) (b .spans) i;
-  account = take-over (w .account) (b .account) i;
-  log = take-over (w .log) (b .log) i;
-}
+measured-is-written w b = λ i. each (λ k. take-over (at w k) (at b k) i)
 
 -- ---- spans and accounts
 

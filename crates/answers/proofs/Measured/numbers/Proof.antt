@@ -1,16 +1,13 @@
 -- `answers::Measured::numbers` meets its contract. Assumes nothing.
 use borrow.Author.Needs.{needs}
-use Rattle.scene_mesh.specs.Operations.{noCounts, refusedWith}
 use Rattle.answers.proofs.Measured.numbers.Statement.{statement}
 use Rattle.answers.proofs.Measured.numbers.Tie as tie
 
 returns : tie.Need-returns
-unfolding noCounts refusedWith
 returns c = rw (c .before .before .before .self .given .1, ← c .before .refusal-number .ensures) (c .refused .ensures)
 
 returns-2 : tie.Need-returns-2
-unfolding noCounts refusedWith
-returns-2 c = rw (c .before .before .self2 .given .1) (c .counts .ensures)
+returns-2 c = rw (c .before .before .self2 .given .1) (c .accepted .ensures)
 
 pub numbers-spec : {M : Type 1} → statement M
 numbers-spec =

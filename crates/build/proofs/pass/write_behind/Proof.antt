@@ -3,7 +3,8 @@ use mathlib.Core.Path.{_≡_, refl, ap, subst}
 use Prim.Native.Nat.{ℕ, _+_, _-_, _<_, _≤_}
 use native.Mathlib.Omega.{arith}
 use Rattle.progress.proofs.Pass.Walks.{Walks, begunAt, walks-start, end-fits, can-add, one-more, walks-next, walks-end}
-use Rattle.scene_mesh.specs.Operations.{Counts, lent, countsOf}
+use Rattle.scene_mesh.specs.PerBuffer.{Counts, lent}
+use Rattle.scene_mesh.specs.Operations.{countsOf}
 use Rattle.build.proofs.pass.write_behind.Statement.{statement}
 use Rattle.build.proofs.pass.write_behind.Tie as tie
 
