@@ -8,7 +8,7 @@ use lib.Ieee.{Float}
 use Rattle.lists.specs.Loops.{over}
 use Rattle.float.specs.Number.{minArea}
 use Rattle.object.specs.Object.{Object}
-use Rattle.scene.specs.declared.Refusal.{Refusal}
+use Rattle.rows.specs.declared.Refusal.{Refusal}
 use Rattle.scene.specs.declared.scenes.Checked.the-variants.{Refused as CheckedRefused, Accepted}
 use Rattle.scene.specs.Scene.{Scene, refused, accepted, scene}
 use Rattle.scene.specs.Answers.{checkedOf, objectsOf}
@@ -16,19 +16,20 @@ use Rattle.scene.proofs.Walk.{checked-accepted, checked-refused}
 use Rattle.validation.specs.declared.Validation.{Validation}
 use Rattle.validation.specs.Validate.{validate}
 use Rattle.answers.specs.declared.Counted.{Counted}
-use Rattle.answers.specs.declared.Measured.the-variants.{Refused as NotMeasured, Counts as CountsAre}
-use Rattle.answers.specs.declared.BuiltAnswer.the-variants.{Refused}
+use Rattle.answers.specs.declared.Answered.the-variants.{Refused, Counts as CountsAre}
+use Rattle.scene_mesh.specs.declared.Room.{Room}
+use Rattle.scene_mesh.specs.declared.Room.the-variants.{Enough, Short}
 use Rattle.scene_mesh.specs.PerBuffer.{Buffers}
 use Rattle.scene_mesh.specs.Operations.{Answer, Built, output, noCounts, refusedWith, countsOf, done, measureScene, measure, tooShort, overlay, buildOutput, buildScene, build}
-use Rattle.answers.specs.Answers.{countsFrom, measuredAnswer, builtWith, BuiltAndJudged, judged, buildAndValidate}
+use Rattle.answers.specs.Answers.{countsFrom, answerOf, builtWith, BuiltAndJudged, judged, buildAndValidate}
 use Rattle.scene_mesh.specs.Demand3.{LongEnough, measured, Demand3Of}
 use Rattle.scene_mesh.proofs.Demand3.{long-enough, demand3}
 
-output-fits : (w b : Buffers) (n : ℕ)
+output-fits : (w b : Buffers) (n : Room)
     → (buildOutput w b n .answer .counts .vertices ≤ length (buildOutput w b n .buffers .vertices)) × (buildOutput w b n .answer .counts .indices ≤ length (buildOutput w b n .buffers .indices))
 unfolding buildOutput done countsOf overlay refusedWith noCounts over
-output-fits w b zero = (omega (arith, length-append (w .vertices) (drop (length (w .vertices)) (b .vertices))), omega (arith, length-append (w .indices) (drop (length (w .indices)) (b .indices))))
-output-fits w b (suc n) = (zero-le, zero-le)
+output-fits w b Enough = (omega (arith, length-append (w .vertices) (drop (length (w .vertices)) (b .vertices))), omega (arith, length-append (w .indices) (drop (length (w .indices)) (b .indices))))
+output-fits w b (Short f) = (zero-le, zero-le)
 
 scene-fits : (t : Scene) (b : Buffers)
     → (buildScene minArea t b .answer .counts .vertices ≤ length (buildScene minArea t b .buffers .vertices)) × (buildScene minArea t b .answer .counts .indices ≤ length (buildScene minArea t b .buffers .indices))
@@ -40,16 +41,16 @@ scene-answer : (t : Scene) (b : Buffers) (os : List Object) → t ≡ accepted o
 unfolding measureScene buildScene buildOutput done
 scene-answer t b os e l =
     let w = output minArea os in
-    let enough : tooShort (countsOf b) (countsOf w) ≡ 0 = long-enough (countsOf b) (countsOf w) (subst (λ (x : Scene). LongEnough (countsOf b) (measureScene minArea x .counts)) e l) in
-    ap (λ (x : Scene). buildScene minArea x b .answer) e ∙ ap (λ (n : ℕ). buildOutput w b n .answer) enough ∙ sym (ap (measureScene minArea) e)
+    let enough : tooShort (countsOf b) (countsOf w) ≡ Enough = long-enough (countsOf b) (countsOf w) (subst (λ (x : Scene). LongEnough (countsOf b) (measureScene minArea x .counts)) e l) in
+    ap (λ (x : Scene). buildScene minArea x b .answer) e ∙ ap (λ (n : Room). buildOutput w b n .answer) enough ∙ sym (ap (measureScene minArea) e)
 
 module _ (s : List ℕ) where
-  pub measure-refused : (f : Refusal) (object : ℕ) → CheckedRefused f object ≡ checkedOf (scene s) → measuredAnswer (NotMeasured f object) ≡ measure s
+  pub measure-refused : (f : Refusal) (object : ℕ) → CheckedRefused f object ≡ checkedOf (scene s) → answerOf (Refused f object) ≡ measure s
   unfolding measure measureScene
   measure-refused f object h = sym (ap (measureScene minArea) (checked-refused (scene s) f object h))
 
   pub measure-accepted : (n : ℕ) (c : Counted) → Accepted n ≡ checkedOf (scene s) → ((os : List Object) → scene s ≡ accepted os → countsFrom c ≡ countsOf (output minArea os))
-      → measuredAnswer (CountsAre c) ≡ measure s
+      → answerOf (CountsAre c) ≡ measure s
   unfolding measure measureScene done
   measure-accepted n c h k =
       let q = checked-accepted s n h in

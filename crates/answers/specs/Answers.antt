@@ -8,23 +8,20 @@ use lib.Seq.{sets}
 use lib.Dec.{ltb}
 use lib.Ieee.{Float}
 use Rattle.object.specs.Object.{Object}
-use Rattle.scene.specs.Scene.{numberOf}
 use Rattle.validation.specs.declared.Validation.{Validation}
 use Rattle.validation.specs.Validate.{validate}
 use Rattle.answers.specs.declared.Counted.{Counted}
 use Rattle.answers.specs.declared.Lengths.{Lengths}
-use Rattle.answers.specs.declared.Measured.{Measured}
-use Rattle.answers.specs.declared.Measured.the-variants.{Refused as NotMeasured, Counts as CountsAre}
-use Rattle.answers.specs.declared.BuiltAnswer.{BuiltAnswer}
-use Rattle.answers.specs.declared.BuiltAnswer.the-variants.{Refused, ShortVertices, ShortIndices, ShortRecords, Complete}
+use Rattle.answers.specs.declared.Answered.{Answered}
+use Rattle.answers.specs.declared.Answered.the-variants.{Refused, Counts}
 use Rattle.answers.specs.declared.Answer.{Answer as CAnswer}
-use Rattle.scene_mesh.specs.PerBuffer.{Counts, Buffers}
+use Rattle.scene_mesh.specs.PerBuffer.{Counts as Numbers, Buffers}
 use Rattle.scene_mesh.specs.Operations.{Answer, Built, refusedWith, output, countsOf, build}
 
-abbrev pub countsFrom : Counted → Counts
+abbrev pub countsFrom : Counted → Numbers
 countsFrom c = record { vertices = c .vertices; normals = c .normals; indices = c .indices; spans = c .spans; account = c .account; log = c .log }
 
-abbrev pub lengthsFrom : Lengths → Counts
+abbrev pub lengthsFrom : Lengths → Numbers
 lengthsFrom c = record { vertices = c .vertices; normals = c .normals; indices = c .indices; spans = c .spans; account = c .account; log = c .log }
 
 -- the answer that C gets
@@ -35,28 +32,13 @@ answerFrom a = record { number = a .refusal; object = a .object; counts = counts
 abbrev pub accepts : Counted → Answer
 accepts c = record { number = 0; object = 0; counts = countsFrom c }
 
-abbrev pub measuredAnswer : Measured → Answer
-measuredAnswer (NotMeasured f object) = refusedWith (numberOf f) object
-measuredAnswer (CountsAre c) = accepts c
-
-abbrev pub builtAnswer : BuiltAnswer → Answer
-builtAnswer (Refused f object) = refusedWith (numberOf f) object
-builtAnswer ShortVertices = refusedWith 8 0
-builtAnswer ShortIndices = refusedWith 9 0
-builtAnswer ShortRecords = refusedWith 10 0
-builtAnswer (Complete c) = accepts c
+abbrev pub answerOf : Answered → Answer
+answerOf (Refused f object) = refusedWith f object
+answerOf (Counts c) = accepts c
 
 -- an answer of Build and what the buffers hold
-abbrev pub builtWith : BuiltAnswer → Buffers → Built
-builtWith r b = record { answer = builtAnswer r; buffers = b }
-
--- the first buffer that is too short, or Complete
-unfoldable pub roomFor : Counts → Counted → BuiltAnswer
-roomFor has needs =
-    cond (ltb (has .vertices) (needs .vertices) || ltb (has .normals) (needs .normals)) ShortVertices
-    (cond (ltb (has .indices) (needs .indices)) ShortIndices
-    (cond (ltb (has .spans) (needs .spans) || ltb (has .account) (needs .account) || ltb (has .log) (needs .log)) ShortRecords
-    (Complete needs)))
+abbrev pub builtWith : Answered → Buffers → Built
+builtWith r b = record { answer = answerOf r; buffers = b }
 
 -- Build, and then Validate on the measured first part of the buffers: nothing of them where Build is refused
 pub record BuiltAndJudged : Type 0 where

@@ -2,9 +2,9 @@
 ghost use mathlib.Core.Path.{_≡_};
 ghost use Rattle.float.specs.Number.{minArea};
 ghost use Rattle.scene_mesh.specs.Operations.{noCounts, refusedWith};
-ghost use Rattle.answers.specs.Answers.{countsFrom, accepts, answerFrom, measuredAnswer, builtAnswer};
-use scene::Refusal;
-use scene::refusal_number;
+ghost use Rattle.answers.specs.Answers.{countsFrom, accepts, answerFrom, answerOf};
+use rows::Refusal;
+use rows::refusal_number;
 use validation::Validation;
 
 // How many numbers each buffer gets.
@@ -28,22 +28,10 @@ pub struct Lengths {
     pub log: usize,
 }
 
-// What Measure answers: by which row the scene is refused and the object named, or the counts.
-pub enum Measured {
+// What Measure and Build answer: by which row the call is refused and the object named, or the counts.
+pub enum Answered {
     Refused(Refusal, u32),
     Counts(Counted),
-}
-
-// What Build answers.
-pub enum BuiltAnswer {
-    // By which row the scene is refused, and the object named.
-    Refused(Refusal, u32),
-    // The vertices or the normals are shorter than measured.
-    ShortVertices,
-    ShortIndices,
-    // The spans, the account or the log are shorter than measured.
-    ShortRecords,
-    Complete(Counted),
 }
 
 // How many numbers of the vertices and of the indices Build has written.
@@ -54,7 +42,7 @@ pub struct MeshLengths {
 
 // What Build and Validate answer together.
 pub struct JudgedBuild {
-    pub answer: BuiltAnswer,
+    pub answer: Answered,
     pub validation: Validation,
 }
 
@@ -89,11 +77,11 @@ impl Counted {
 }
 
 impl Answer {
-    fn refused(refusal: u32, object: u32) -> Answer
-        ensures { λ r. ⌜ answerFrom r ≡ refusedWith refusal object ⌝ }
+    fn refused(f: Refusal, object: u32) -> Answer
+        ensures { λ r. ⌜ answerFrom r ≡ refusedWith f object ⌝ }
     {
         Answer {
-            refusal,
+            refusal: refusal_number(f),
             object,
             counts: Counted::none(),
         }
@@ -110,33 +98,19 @@ impl Answer {
     }
 }
 
-impl Measured {
+impl Answered {
     pub fn numbers(self) -> Answer
-        ensures { λ r. ⌜ answerFrom r ≡ measuredAnswer self ⌝ }
+        ensures { λ r. ⌜ answerFrom r ≡ answerOf self ⌝ }
     {
         match self {
-            Measured::Refused(f, object) => Answer::refused(refusal_number(f), object),
-            Measured::Counts(c) => Answer::accepted(c),
-        }
-    }
-}
-
-impl BuiltAnswer {
-    pub fn numbers(self) -> Answer
-        ensures { λ r. ⌜ answerFrom r ≡ builtAnswer self ⌝ }
-    {
-        match self {
-            BuiltAnswer::Refused(f, object) => Answer::refused(refusal_number(f), object),
-            BuiltAnswer::ShortVertices => Answer::refused(8, 0),
-            BuiltAnswer::ShortIndices => Answer::refused(9, 0),
-            BuiltAnswer::ShortRecords => Answer::refused(10, 0),
-            BuiltAnswer::Complete(c) => Answer::accepted(c),
+            Answered::Refused(f, object) => Answer::refused(f, object),
+            Answered::Counts(c) => Answer::accepted(c),
         }
     }
 
     // None where the call is refused.
     pub fn mesh_lengths(self) -> MeshLengths
-        ensures { λ r. ⌜ (r .vertices ≡ builtAnswer self .counts .vertices) × (r .indices ≡ builtAnswer self .counts .indices) ⌝ }
+        ensures { λ r. ⌜ (r .vertices ≡ answerOf self .counts .vertices) × (r .indices ≡ answerOf self .counts .indices) ⌝ }
     {
         let a = self.numbers();
         let c = a.counts;

@@ -11,17 +11,18 @@ use lib.Ieee.{Float}
 use borrow.Author.Tests.{ltb-false}
 use Rattle.object.specs.Object.{Object}
 use Rattle.float.specs.Number.{minArea}
-use Rattle.scene.specs.declared.Refusal.{Refusal}
+use Rattle.rows.specs.declared.Refusal.{Refusal}
 use Rattle.scene.specs.declared.scenes.Checked.the-variants.{Refused as CheckedRefused, Accepted}
 use Rattle.scene.specs.Scene.{accepted, scene}
 use Rattle.scene.specs.Answers.{checkedOf}
 use Rattle.answers.specs.declared.Counted.{Counted}
-use Rattle.answers.specs.declared.BuiltAnswer.{BuiltAnswer}
-use Rattle.answers.specs.declared.BuiltAnswer.the-variants.{Refused, ShortVertices, ShortIndices, ShortRecords, Complete}
+use Rattle.answers.specs.declared.Answered.the-variants.{Counts as CountsAre}
+use Rattle.scene_mesh.specs.declared.Room.{Room}
+use Rattle.scene_mesh.specs.declared.Room.the-variants.{Enough, Short}
 use Rattle.scene_mesh.specs.PerBuffer.{Buffer, each, at, Counts, Buffers}
 use Rattle.scene_mesh.specs.PerBuffer.Buffer.{vertices, normals, indices, spans, account, log}
-use Rattle.scene_mesh.specs.Operations.{output, countsOf, done, tooShort, overlay, buildOutput, buildScene, build}
-use Rattle.answers.specs.Answers.{countsFrom, builtWith, roomFor}
+use Rattle.scene_mesh.specs.Operations.{output, countsOf, done, tooShort, overlay, refusedBuild, buildOutput, buildScene, build}
+use Rattle.answers.specs.Answers.{countsFrom, builtWith}
 use Rattle.answers.proofs.Calls.{build-refused, build-accepted}
 use Rattle.room.proofs.Rooms.{noVertices, noIndices, noRecords}
 use Rattle.progress.specs.Pass.{beginning, CanAddAll}
@@ -38,37 +39,17 @@ use Rattle.build.specs.declared.Plan.{Plan}
 use Rattle.build.specs.declared.Plan.the-variants.{Refuse, Write}
 use Rattle.build.specs.Plan.{PlanBy, PlanHolds}
 
--- by the outcomes of the three tests
-abbrev answerBy : Counted → Bool → Bool → Bool → BuiltAnswer
-answerBy c x y z = cond x ShortVertices (cond y ShortIndices (cond z ShortRecords (Complete c)))
+abbrev isEnough : Room → Bool
+isEnough Enough = true
+isEnough (Short f) = false
 
-abbrev numberBy : Bool → Bool → Bool → ℕ
-numberBy x y z = cond x 8 (cond y 9 (cond z 10 0))
-
-abbrev pub isComplete : BuiltAnswer → Bool
-isComplete (Refused f object) = false
-isComplete ShortVertices = false
-isComplete ShortIndices = false
-isComplete ShortRecords = false
-isComplete (Complete c) = true
-
-pub no : true ≡ false → ⊥
+no : true ≡ false → ⊥
 no q = let z : _≡_ {A = ℕ} 0 1 = cc in omega arith
 
--- refused: the buffers stay as they were
-short-by : (w b : Buffers) (c : Counted) (a : BuiltAnswer) → isComplete a ≡ false → (x y z : Bool) → answerBy c x y z ≡ a → builtWith a b ≡ buildOutput w b (numberBy x y z)
-unfolding buildOutput
-short-by w b c a s true y z e = ap (λ (k : BuiltAnswer). builtWith k b) (sym e)
-short-by w b c a s false true z e = ap (λ (k : BuiltAnswer). builtWith k b) (sym e)
-short-by w b c a s false false true e = ap (λ (k : BuiltAnswer). builtWith k b) (sym e)
-short-by w b c a s false false false e = absurd (no (ap isComplete e ∙ s))
-
--- not refused: no test was met
-enough : (c c′ : Counted) (x y z : Bool) → answerBy c x y z ≡ Complete c′ → (x ≡ false) × (y ≡ false) × (z ≡ false)
-enough c c′ true y z e = absurd (no (sym (ap isComplete e)))
-enough c c′ false true z e = absurd (no (sym (ap isComplete e)))
-enough c c′ false false true e = absurd (no (sym (ap isComplete e)))
-enough c c′ false false false e = (refl, refl, refl)
+-- no test was met
+enough : (x : Bool) (f : Refusal) (rest : Room) → Enough ≡ cond x (Short f) rest → (x ≡ false) × (Enough ≡ rest)
+enough true f rest e = absurd (no (ap isEnough e))
+enough false f rest e = (refl, e)
 
 either-false : (a b : Bool) → (a || b) ≡ false → (a ≡ false) × (b ≡ false)
 either-false true b e = absurd (no e)
@@ -89,17 +70,19 @@ unfolding stored overlay
 stored-over w b l = λ i. each (λ k. sets-over (at w k) (at b k) (lengths-fit w b l k) i)
 
 -- each buffer has room for what was found to fit
-pub enough-room : (has : Counts) (c c′ : Counted) → Complete c′ ≡ roomFor has c → LongEnough has (countsFrom c)
-unfolding roomFor
-enough-room has c c′ q =
-    let f = enough c c′ (noVertices has c) (noIndices has c) (noRecords has c) (sym q) in
+pub enough-room : (has needs : Counts) → Enough ≡ tooShort has needs → LongEnough has needs
+unfolding tooShort
+enough-room has needs q =
+    let f = enough (noVertices has needs) _ _ q in
+    let g = enough (noIndices has needs) _ _ (f .1) in
+    let h = enough (noRecords has needs) _ _ (g .1) in
     let v = either-false _ _ (f .0) in
-    let l = either-false (ltb (has .spans) (c .spans) || ltb (has .account) (c .account)) _ (f .2) in
+    let l = either-false (ltb (has .spans) (needs .spans) || ltb (has .account) (needs .account)) _ (h .0) in
     let m = either-false _ _ (l .0) in
     record {
       vertices = ltb-false _ _ (v .0);
       normals = ltb-false _ _ (v .1);
-      indices = ltb-false _ _ (f .1);
+      indices = ltb-false _ _ (g .0);
       spans = ltb-false _ _ (m .0);
       account = ltb-false _ _ (m .1);
       log = ltb-false _ _ (l .1);
@@ -118,7 +101,7 @@ few-fit p q h =
 
 -- all objects written into buffers with room for them
 built-whole : (os : List Object) (b : Buffers) (c : Counted) → countsFrom c ≡ countsOf (output minArea os) → (b′ : Buffers) → LongEnough (countsOf b) (countsOf (output minArea os)) → b′ ≡ stored (output minArea os) b
-    → builtWith (Complete c) b′ ≡ buildScene minArea (accepted os) b
+    → builtWith (CountsAre c) b′ ≡ buildScene minArea (accepted os) b
 unfolding buildScene buildOutput countsOf done
 built-whole os b c e b′ l r =
     let w = output minArea os in
@@ -127,19 +110,18 @@ built-whole os b c e b′ l r =
 
 -- ---- the plan by counts
 
-module _ (has : Counts) (n : ℕ) (c : Counted) {needs : Counts} (e : countsFrom c ≡ needs) where
-  pub plan-complete : FitCounts needs → (c′ : Counted) → Complete c′ ≡ roomFor has c → PlanBy has needs n (Write n)
-  plan-complete f c′ q = (refl, subst (LongEnough has) e (enough-room has c c′ q), f)
+module _ (has : Counts) (n : ℕ) {counted needs : Counts} (e : counted ≡ needs) where
+  pub plan-complete : FitCounts needs → Enough ≡ tooShort has counted → PlanBy has needs n (Write n)
+  plan-complete f q = (refl, subst (LongEnough has) e (enough-room has counted q), f)
 
-  -- the tests of `roomFor` are those of `tooShort`
-  pub plan-short : (a : BuiltAnswer) → isComplete a ≡ false → a ≡ roomFor has c → PlanBy has needs n (Refuse a)
-  unfolding roomFor tooShort
-  plan-short a f q = λ w b. short-by w b c a f (noVertices has c) (noIndices has c) (noRecords has c) (sym q) ∙ ap (λ (k : Counts). buildOutput w b (tooShort has k)) e
+  pub plan-short : (f : Refusal) → Short f ≡ tooShort has counted → PlanBy has needs n (Refuse f 0)
+  unfolding buildOutput
+  plan-short f q = λ w b. ap (buildOutput w b) (q ∙ ap (tooShort has) e)
 
 -- ---- the plan for a scene
 
 module _ (s : List ℕ) (has : Counts) where
-  pub plan-refused : (f : Refusal) (object : ℕ) → CheckedRefused f object ≡ checkedOf (scene s) → PlanHolds s has (Refuse (Refused f object))
+  pub plan-refused : (f : Refusal) (object : ℕ) → CheckedRefused f object ≡ checkedOf (scene s) → PlanHolds s has (Refuse f object)
   plan-refused f object h = λ b e. build-refused s b f object h
 
   module _ (n : ℕ) (h : Accepted n ≡ checkedOf (scene s)) {a b : Most} where
@@ -152,8 +134,8 @@ module _ (s : List ℕ) (has : Counts) where
     -- with both measured
     pub plan-measured : SumOf s false true a → SumOf s true true b → (r : Plan) → PlanBy has (numbersOf (together a b) n) n r → PlanHolds s has r
     unfolding buildScene
-    plan-measured p q (Refuse x) d =
-        λ lent f. build-accepted s lent n (builtWith x lent) h (λ os e. d (output minArea os) lent ∙ ap₂ (λ (x y : Counts). buildOutput (output minArea os) lent (tooShort x y)) (sym f) (measured-counts s n h os e p q))
+    plan-measured p q (Refuse x object) d =
+        λ lent f. build-accepted s lent n (refusedBuild x object lent) h (λ os e. d (output minArea os) lent ∙ ap₂ (λ (x y : Counts). buildOutput (output minArea os) lent (tooShort x y)) (sym f) (measured-counts s n h os e p q))
     plan-measured p q (Write k) d =
         (subst (λ (m : ℕ). Accepted m ≡ checkedOf (scene s)) (sym (d .0)) h, λ os e. (subst (LongEnough has) (measured-counts s n h os e p q) (d .1), subst FitCounts (measured-counts s n h os e p q) (d .2)))
 
@@ -162,7 +144,7 @@ module _ (s : List ℕ) (has : Counts) where
   can-write n limit p l = λ os b e. counts-fit limit os b (subst (λ (x : Float). FitCounts (countsOf (output x os))) (sym l) (p .1 os e .1))
 
   pub built-planned : (n : ℕ) (limit : Float) (b b′ : Buffers) (c : Counted) → PlanHolds s has (Write n) → countsOf b ≡ has → limit ≡ minArea
-      → ((os : List Object) → scene s ≡ accepted os → WroteAll limit os c b b′) → builtWith (Complete c) b′ ≡ build s b
+      → ((os : List Object) → scene s ≡ accepted os → WroteAll limit os c b b′) → builtWith (CountsAre c) b′ ≡ build s b
   built-planned n limit b b′ c p e l k =
-      build-accepted s b n (builtWith (Complete c) b′) (p .0)
+      build-accepted s b n (builtWith (CountsAre c) b′) (p .0)
       (λ os q. let w = subst (λ (x : Float). WroteAll x os c b b′) l (k os q) in built-whole os b c (w .counts) b′ (subst (λ (x : Counts). LongEnough x (countsOf (output minArea os))) (sym e) (p .1 os q .0)) (w .buffers))

@@ -8,19 +8,18 @@ use Rattle.scene.specs.declared.scenes.Checked.the-variants.{Accepted}
 use Rattle.scene.specs.Scene.{scene, accepted}
 use Rattle.scene.specs.Answers.{checkedOf}
 use Rattle.scene_mesh.specs.PerBuffer.{Counts, Buffers}
-use Rattle.scene_mesh.specs.Operations.{output, countsOf, tooShort, buildOutput, build}
+use Rattle.scene_mesh.specs.Operations.{output, countsOf, tooShort, refusedBuild, buildOutput, build}
 use Rattle.scene_mesh.specs.Demand3.{LongEnough}
-use Rattle.answers.specs.Answers.{builtWith}
 use Rattle.progress.specs.Wrote.{FitCounts}
 use Rattle.build.specs.declared.Plan.{Plan}
 use Rattle.build.specs.declared.Plan.the-variants.{Refuse, Write}
 
 -- a refusal is Build's answer wherever so many numbers are to be written into buffers of these lengths; n objects are written only where they fit, and fit the program's counts
 abbrev pub PlanBy : Counts → Counts → ℕ → Plan → Type 0
-PlanBy has needs n (Refuse a) = (w b : Buffers) → builtWith a b ≡ buildOutput w b (tooShort has needs)
+PlanBy has needs n (Refuse f object) = (w b : Buffers) → refusedBuild f object b ≡ buildOutput w b (tooShort has needs)
 PlanBy has needs n (Write k) = (k ≡ n) × LongEnough has needs × FitCounts needs
 
 -- the same for the objects of a scene
 abbrev pub PlanHolds : List ℕ → Counts → Plan → Type 0
-PlanHolds s has (Refuse a) = (b : Buffers) → countsOf b ≡ has → builtWith a b ≡ build s b
+PlanHolds s has (Refuse f object) = (b : Buffers) → countsOf b ≡ has → refusedBuild f object b ≡ build s b
 PlanHolds s has (Write n) = (Accepted n ≡ checkedOf (scene s)) × ((os : List Object) → scene s ≡ accepted os → LongEnough has (countsOf (output minArea os)) × FitCounts (countsOf (output minArea os)))

@@ -13,18 +13,20 @@ ghost use Rattle.answers.specs.Answers.{lengthsFrom, builtWith};
 ghost use Rattle.most.specs.Most.{numbersOf, together, Few};
 ghost use Rattle.build.specs.Plan.{PlanBy, PlanHolds};
 use crate::pass::write_objects;
-use answers::BuiltAnswer;
+use answers::Answered;
 use answers::Lengths;
 use answers::min_area;
 use most::Most;
 use room::bound_counts;
 use room::room;
+use rows::Refusal;
 use scene::scenes::Checked;
+use scene_mesh::Room;
 use scene_most::part_of_all;
 
 // What is to be done before a buffer is touched: refuse, or write so many objects.
 pub enum Plan {
-    Refuse(BuiltAnswer),
+    Refuse(Refusal, u32),
     Write(u32),
 }
 
@@ -33,11 +35,10 @@ fn plan_parts(has: Lengths, others: Most, lids: Most, n: u32) -> Plan
     requires { ⌜ Few others 16777216 65536 × Few lids 16777216 65536 × (n ≤ 65536) ⌝ }
     ensures { λ r. ⌜ PlanBy (lengthsFrom has) (numbersOf (together others lids) n) n r ⌝ }
 {
-    let answer = room(has, bound_counts(others, lids, n));
-    if let BuiltAnswer::Complete(_) = answer {
-        return Plan::Write(n);
+    match room(has, bound_counts(others, lids, n)) {
+        Room::Enough => Plan::Write(n),
+        Room::Short(f) => Plan::Refuse(f, 0),
     }
-    Plan::Refuse(answer)
 }
 
 // The n objects of an accepted scene: by the most that they can come to, then with those without
@@ -63,7 +64,7 @@ fn plan_scene(s: &[u8], has: Lengths) -> Plan
     ensures { λ r. ⌜ PlanHolds (now (s .entry)) (lengthsFrom has) r ⌝ }
 {
     match scenes::check_scene(s) {
-        Checked::Refused(f, object) => Plan::Refuse(BuiltAnswer::Refused(f, object)),
+        Checked::Refused(f, object) => Plan::Refuse(f, object),
         Checked::Accepted(n) => plan_objects(s, n, has),
     }
 }
@@ -76,7 +77,7 @@ pub fn build(
     spans: &mut [u32],
     account: &mut [u32],
     log: &mut [u32],
-) -> BuiltAnswer
+) -> Answered
     ensures { λ r. ⌜ builtWith r (leaving vertices normals indices spans account log) ≡ build (now (s .entry)) (entering vertices normals indices spans account log) ⌝ }
 {
     let has = Lengths {
@@ -88,8 +89,8 @@ pub fn build(
         log: log.len(),
     };
     match plan_scene(s, has) {
-        Plan::Refuse(a) => a,
-        Plan::Write(n) => BuiltAnswer::Complete(write_objects(
+        Plan::Refuse(f, object) => Answered::Refused(f, object),
+        Plan::Write(n) => Answered::Counts(write_objects(
             s,
             n,
             min_area(),

@@ -7,7 +7,7 @@ use lib.ListN.{length}
 use lib.Dec.{ltb}
 use borrow.Author.Tests.{lt-ltb}
 use Rattle.float.specs.Number.{minArea}
-use Rattle.scene.specs.declared.Refusal.the-variants.{Length}
+use Rattle.rows.specs.declared.Refusal.the-variants.{Length, Start}
 use Rattle.scene.specs.Scene.{Scene, refused, scene, countAt, trailer, recordsFrom}
 use Rattle.scene_mesh.specs.PerBuffer.{Buffers}
 use Rattle.scene_mesh.specs.Operations.{refusedWith, measure, measureScene, build, buildScene}
@@ -17,15 +17,15 @@ unfolding scene
 over-length s h = rw (lt-ltb 16777216 (length s) h) (rw (or-true (ltb (length s) 4)) refl)
 
 -- over 16,777,216 bytes: refused by 1, and no buffer is touched
-pub measured-too-long : (s : List ℕ) → 16777216 < length s → measure s ≡ refusedWith 1 0
+pub measured-too-long : (s : List ℕ) → 16777216 < length s → measure s ≡ refusedWith Length 0
 unfolding measure measureScene
 measured-too-long s h = ap (measureScene minArea) (over-length s h)
 
-pub built-too-long : (s : List ℕ) (b : Buffers) → 16777216 < length s → build s b ≡ record { answer = refusedWith 1 0; buffers = b }
+pub built-too-long : (s : List ℕ) (b : Buffers) → 16777216 < length s → build s b ≡ record { answer = refusedWith Length 0; buffers = b }
 unfolding build buildScene
 built-too-long s b h = ap (λ (x : Scene). buildScene minArea x b) (over-length s h)
 
 -- 16,777,216 bytes that name no object: not refused by 1, but by 3, since the trailer does not begin at the first byte
-pub longest : (s : List ℕ) → length s ≡ 16777216 → countAt s ≡ 0 → measure s ≡ refusedWith 3 0
+pub longest : (s : List ℕ) → length s ≡ 16777216 → countAt s ≡ 0 → measure s ≡ refusedWith Start 0
 unfolding measure measureScene scene trailer recordsFrom
 longest s h none = rw h (rw none refl)

@@ -6,9 +6,9 @@ use Prim.Native.Nat.{ℕ}
 use lib.Ieee.{Float}
 use Rattle.float.specs.Number.{minArea}
 use Rattle.object.specs.Object.{Object}
-use Rattle.scene.specs.declared.Refusal.{Refusal}
+use Rattle.rows.specs.declared.Refusal.{Refusal}
 use Rattle.scene.specs.declared.scenes.Checked.the-variants.{Refused as CheckedRefused, Accepted}
-use Rattle.scene.specs.Scene.{Scene, refused, accepted, scene, numberOf}
+use Rattle.scene.specs.Scene.{Scene, refused, accepted, scene}
 use Rattle.scene.specs.Answers.{checkedOf, objectsOf}
 use Rattle.scene.proofs.Walk.{checked-accepted, checked-refused}
 use Rattle.scene_mesh.specs.Operations.{Answer, refusedWith, done, measureScene, measure}
@@ -18,7 +18,7 @@ use Rattle.most.proofs.Exact.{exact-counts}
 use Rattle.measure.specs.Bounds.{boundOf, boundScene}
 
 module _ (s : List ℕ) (exact : Bool) where
-  pub bound-refused : (f : Refusal) (object : ℕ) → CheckedRefused f object ≡ checkedOf (scene s) → refusedWith (numberOf f) object ≡ boundScene exact minArea (scene s)
+  pub bound-refused : (f : Refusal) (object : ℕ) → CheckedRefused f object ≡ checkedOf (scene s) → refusedWith f object ≡ boundScene exact minArea (scene s)
   unfolding boundScene
   bound-refused f object h = sym (ap (boundScene exact minArea) (checked-refused (scene s) f object h))
 

@@ -3,7 +3,7 @@ use mathlib.Core.Bool.{Bool}
 use mathlib.Core.List.{List}
 use lib.Ieee.{Float}
 use Rattle.object.specs.Object.{Object}
-use Rattle.scene.specs.Scene.{Scene, refused, accepted, numberOf}
+use Rattle.scene.specs.Scene.{Scene, refused, accepted}
 use Rattle.scene_mesh.specs.PerBuffer.{Counts}
 use Rattle.scene_mesh.specs.Operations.{Answer, refusedWith}
 use Rattle.most.specs.Most.{mostCounts}
@@ -12,5 +12,5 @@ unfoldable pub boundOf : Bool → Float → List Object → Counts
 boundOf exact limit os = mostCounts exact exact limit os
 
 unfoldable pub boundScene : Bool → Float → Scene → Answer
-boundScene exact limit (refused r object) = refusedWith (numberOf r) object
+boundScene exact limit (refused r object) = refusedWith r object
 boundScene exact limit (accepted os) = record { number = 0; object = 0; counts = boundOf exact limit os }

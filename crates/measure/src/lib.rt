@@ -3,29 +3,29 @@ ghost use mathlib.Core.Path.{_≡_};
 ghost use Rattle.float.specs.Number.{minArea};
 ghost use Rattle.scene.specs.Scene.{scene};
 ghost use Rattle.scene_mesh.specs.Operations.{measure};
-ghost use Rattle.answers.specs.Answers.{measuredAnswer};
+ghost use Rattle.answers.specs.Answers.{answerOf};
 ghost use Rattle.measure.specs.Bounds.{boundScene};
-use answers::Measured;
+use answers::Answered;
 use room::bound_counts;
 use scene::scenes::Checked;
 use scene_most::part_of_all;
 
 // What the objects take in each buffer: measured, or the most that they can take.
-pub fn count_scene(s: &[u8], exact: bool) -> Measured
-    ensures { λ r. ⌜ measuredAnswer r ≡ boundScene exact minArea (scene (now (s .entry))) ⌝ }
+pub fn count_scene(s: &[u8], exact: bool) -> Answered
+    ensures { λ r. ⌜ answerOf r ≡ boundScene exact minArea (scene (now (s .entry))) ⌝ }
 {
     match scenes::check_scene(s) {
-        Checked::Refused(f, object) => Measured::Refused(f, object),
+        Checked::Refused(f, object) => Answered::Refused(f, object),
         Checked::Accepted(n) => {
             let others = part_of_all(s, n, false, exact);
             let lids = part_of_all(s, n, true, exact);
-            Measured::Counts(bound_counts(others, lids, n))
+            Answered::Counts(bound_counts(others, lids, n))
         }
     }
 }
 
-pub fn measure(s: &[u8]) -> Measured
-    ensures { λ r. ⌜ measuredAnswer r ≡ measure (now (s .entry)) ⌝ }
+pub fn measure(s: &[u8]) -> Answered
+    ensures { λ r. ⌜ answerOf r ≡ measure (now (s .entry)) ⌝ }
 {
     count_scene(s, true)
 }

@@ -6,6 +6,7 @@ ghost use Rattle.validation.specs.Validate.{triangleAt, trianglesFrom, validate
 use faults::degenerate;
 use faults::first_not_finite;
 use lists::Found;
+use rows::Refusal;
 use validation::Validation;
 use validation::Verdict;
 
@@ -70,7 +71,7 @@ fn validate_at(limit: f32, vertices: &[f32], indices: &[u32]) -> Validation
     ensures { λ r. ⌜ r ≡ validateAt limit (now (vertices .entry)) (now (indices .entry)) ⌝ }
 {
     if vertices.len() % 3 != 0 {
-        return Validation::PartialVertex;
+        return Validation::Refused(Refusal::PartialVertex);
     }
     if indices.len() == 0 {
         return Validation::Judged(Verdict::Empty);

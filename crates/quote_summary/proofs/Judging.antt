@@ -9,7 +9,7 @@ use Rattle.lists.specs.Loops.{over}
 use Rattle.lists.proofs.Buffers.{take-over}
 use Rattle.float.specs.Number.{zerof, minArea}
 use Rattle.object.specs.Object.{Object}
-use Rattle.scene.specs.Scene.{Scene, refused, accepted, scene, numberOf}
+use Rattle.scene.specs.Scene.{Scene, refused, accepted, scene}
 use Rattle.validation.specs.declared.Validation.{Validation}
 use Rattle.validation.specs.Validate.{validate}
 use Rattle.scene_mesh.specs.Mesh.{Mesh, meshOf, accountsOf, accountNumbers}
@@ -19,8 +19,7 @@ use Rattle.scene_mesh.specs.Demand3.{LongEnough}
 use Rattle.scene_mesh.proofs.Demand3.{long-enough}
 use Rattle.scene_mesh.proofs.MeshSizes.{output-counts}
 use Rattle.answers.specs.declared.Answer.{Answer as CAnswer}
-use Rattle.answers.specs.declared.BuiltAnswer.{BuiltAnswer}
-use Rattle.answers.specs.Answers.{builtAnswer, builtWith, answerFrom, BuiltAndJudged, judged, buildAndValidate}
+use Rattle.answers.specs.Answers.{builtWith, answerFrom, BuiltAndJudged, judged, buildAndValidate}
 use Rattle.quote_room.specs.Room.{objectsMost, roomFor}
 use Rattle.quote_room.proofs.Enough.{enough}
 use Rattle.quote_lines.specs.Lines.{isOk}
@@ -30,7 +29,7 @@ use Rattle.quote_summary.specs.Summaries.{summaryOf, SummedUp, Summed}
 
 -- what Build leaves where no buffer is too short
 abbrev whole : Scene → Buffers → Built
-whole (refused r object) b = record { answer = refusedWith (numberOf r) object; buffers = b }
+whole (refused r object) b = record { answer = refusedWith r object; buffers = b }
 whole (accepted os) b = record { answer = done (output minArea os); buffers = overlay (output minArea os) b }
 
 built-whole : (t : Scene) (b : Buffers) → LongEnough (countsOf b) (measureScene minArea t .counts) → buildScene minArea t b ≡ whole t b

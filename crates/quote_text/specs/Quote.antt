@@ -8,7 +8,8 @@ use Rattle.lists.specs.Loops.{join}
 use Rattle.float.specs.Number.{minArea}
 use Rattle.coords.specs.Buffers.{vertexNumbers}
 use Rattle.object.specs.Object.{Object}
-use Rattle.scene.specs.Scene.{Scene, refused, accepted, scene, numberOf}
+use Rattle.rows.specs.Rows.{numberOf}
+use Rattle.scene.specs.Scene.{Scene, refused, accepted, scene}
 use Rattle.validation.specs.declared.Validation.{Validation}
 use Rattle.validation.specs.Validate.{validate}
 use Rattle.scene_mesh.specs.Mesh.{Mesh, accountOf, meshOf}

@@ -16,9 +16,10 @@ use Rattle.lists.proofs.Loops.{either-by}
 use Rattle.float.specs.Number.{minArea}
 use Rattle.object.specs.Object.{Object}
 use Rattle.fields.specs.Fields.{u16At, u32At}
-use Rattle.scene.specs.declared.Refusal.{Refusal}
-use Rattle.scene.specs.declared.Refusal.the-variants.{Length, Trailer, Start, Past, Kind, Counts, Numbers}
-use Rattle.scene.specs.Scene.{Scene, refused, accepted, scene, trailer, countAt, numberOf}
+use Rattle.rows.specs.declared.Refusal.{Refusal}
+use Rattle.rows.specs.Rows.{numberOf}
+use Rattle.rows.proofs.Numbers.{number-range}
+use Rattle.scene.specs.Scene.{Scene, refused, accepted, scene, trailer, countAt}
 use Rattle.scene.specs.Headers.{headerAt, objectOf}
 use Rattle.scene.proofs.Walk.{Walking, walk-object, walk-next, walk-inside, accepted-scene, trailer-inside}
 use Rattle.shapes.specs.Price.{offered}
@@ -110,15 +111,6 @@ module _ {s : List ℕ} {e n : ℕ} {os : List Object} (bytes : Bytes s) (all : 
 
 -- ---- all of it
 
-seven : (r : Refusal) → numberOf r ≤ 7
-seven Length = omega arith
-seven Trailer = omega arith
-seven Start = omega arith
-seven Past = omega arith
-seven Kind = omega arith
-seven Counts = omega arith
-seven Numbers = omega arith
-
 module _ (s : List ℕ) (bytes : Bytes s) (l : length s ≤ 4096) where
   accepted-most : (os : List Object) → scene s ≡ accepted os → length (objectsText os) ≤ 25743
   unfolding objectsText meshLine meshOf objectsMost
@@ -137,7 +129,7 @@ module _ (s : List ℕ) (bytes : Bytes s) (l : length s ≤ 4096) where
       omega (arith, length-append (join objectLine os ++ x) y, length-append (join objectLine os) x, verdict-most (isOk (validation m)))
 
   refusal-most : (r : Refusal) → length (refusedLine (numberOf r)) ≤ 19
-  refusal-most r = refused-most (numberOf r) (omega (arith, seven r))
+  refusal-most r = refused-most (numberOf r) (omega (arith, number-range r .1))
 
   scene-most : length (sceneText (scene s)) ≤ 25743
   unfolding sceneText

@@ -12,9 +12,8 @@ use Rattle.lists.specs.Loops.{join, over}
 use Rattle.lists.proofs.Buffers.{take-over}
 use Rattle.float.specs.Number.{minArea}
 use Rattle.object.specs.Object.{Object}
-use Rattle.scene.specs.declared.Refusal.{Refusal}
-use Rattle.scene.specs.declared.Refusal.the-variants.{Length, Trailer, Start, Past, Kind, Counts, Numbers}
-use Rattle.scene.specs.Scene.{Scene, refused, accepted, scene, numberOf}
+use Rattle.rows.proofs.Numbers.{number-range}
+use Rattle.scene.specs.Scene.{Scene, refused, accepted, scene}
 use Rattle.scene.specs.Answers.{objectsOf}
 use Rattle.scene_mesh.specs.Mesh.{Mesh, meshOf}
 use Rattle.scene_mesh.specs.Operations.{refusedWith, done, measureScene, measure}
@@ -30,15 +29,6 @@ use Rattle.quote_summary.specs.Summaries.{SummedUp, Summed}
 
 -- ---- refused or accepted, by Measure's number
 
-one-of : (r : Refusal) → 1 ≤ numberOf r
-one-of Length = omega arith
-one-of Trailer = omega arith
-one-of Start = omega arith
-one-of Past = omega arith
-one-of Kind = omega arith
-one-of Counts = omega arith
-one-of Numbers = omega arith
-
 refused-text : (t : Scene) (n : ℕ) → n ≡ measureScene minArea t .number → (n ≡ 0 → ⊥) → sceneText t ≡ refusedLine n
 unfolding measureScene refusedWith done sceneText
 refused-text (refused r object) n h k = ap refusedLine (sym h)
@@ -46,7 +36,7 @@ refused-text (accepted os) n h k = absurd (k h)
 
 accepted-is : (t : Scene) (n : ℕ) → n ≡ measureScene minArea t .number → n ≡ 0 → t ≡ accepted (objectsOf t)
 unfolding measureScene refusedWith done
-accepted-is (refused r object) n h k = absurd (omega (arith, one-of r))
+accepted-is (refused r object) n h k = absurd (omega (arith, (number-range r .0)))
 accepted-is (accepted os) n h k = refl
 
 -- ---- the text, by the scene's length

@@ -10,7 +10,7 @@ use Rattle.object.specs.declared.Extent.{Extent}
 use Rattle.object.specs.declared.Section.{Section}
 use Rattle.object.specs.Object.{Shape, solid, outline, Object}
 use Rattle.fields.specs.Fields.{u16At, pointAt, orientationAt, cornersAt, sectionsAt, holesAt, all32, all64}
-use Rattle.scene.specs.declared.Refusal.the-variants.{Past, Numbers}
+use Rattle.rows.specs.declared.Refusal.the-variants.{Past, Numbers}
 use Rattle.scene.specs.declared.records.RecordEnd.{RecordEnd}
 use Rattle.scene.specs.Scene.{bad, good, rest, solidAt, outlineCorners, sweepAt}
 use Rattle.scene.specs.Answers.{endOf}

@@ -15,7 +15,7 @@ use allowed::all_allowed32;
 use allowed::orientation_allowed;
 use fields::u16_in;
 use hole_counts::sum_counts;
-use scene::Refusal;
+use rows::Refusal;
 use scene::records::RecordEnd;
 
 // A solid with w sizes; its position is at i.

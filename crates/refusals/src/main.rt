@@ -3,7 +3,7 @@
 ghost use Prim.Native.Nat.{_≤_};
 ghost use lib.ListN.{length};
 use libc::STDOUT_FILENO;
-use scene::refusal_number;
+use rows::refusal_number;
 use scene::scenes::Checked;
 use scenes::check_scene;
 

@@ -1,10 +1,9 @@
 -- The room in the lent buffers: which one is too short. Assumes nothing.
 use mathlib.Core.Bool.{Bool, _||_}
 use lib.Dec.{ltb}
-use Rattle.answers.specs.declared.Counted.{Counted}
 use Rattle.scene_mesh.specs.PerBuffer.{Counts}
 
-module _ (has : Counts) (needs : Counted) where
+module _ (has needs : Counts) where
   abbrev pub noVertices : Bool
   noVertices = ltb (has .vertices) (needs .vertices) || ltb (has .normals) (needs .normals)
 

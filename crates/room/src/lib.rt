@@ -2,13 +2,15 @@
 ghost use mathlib.Core.Path.{_≡_};
 ghost use Prim.Native.Nat.{_≤_};
 ghost use lib.Dec.{ltb};
-ghost use Rattle.answers.specs.Answers.{countsFrom, lengthsFrom, roomFor};
+ghost use Rattle.scene_mesh.specs.Operations.{tooShort};
+ghost use Rattle.answers.specs.Answers.{countsFrom, lengthsFrom};
 ghost use Rattle.most.specs.Most.{together, numbersOf, Few};
-use answers::BuiltAnswer;
 use answers::Counted;
 use answers::Lengths;
 use most::Most;
 use most::add;
+use rows::Refusal;
+use scene_mesh::Room;
 
 // The numbers that n objects take in each buffer, which come to so much.
 pub fn numbers_of(m: Most, n: u32) -> Counted
@@ -41,17 +43,17 @@ fn short(has: usize, n: u32) -> bool
 }
 
 // Whether buffers of these lengths have room.
-pub fn room(has: Lengths, c: Counted) -> BuiltAnswer
-    ensures { λ r. ⌜ r ≡ roomFor (lengthsFrom has) c ⌝ }
+pub fn room(has: Lengths, c: Counted) -> Room
+    ensures { λ r. ⌜ r ≡ tooShort (lengthsFrom has) (countsFrom c) ⌝ }
 {
     if short(has.vertices, c.vertices) | short(has.normals, c.normals) {
-        return BuiltAnswer::ShortVertices;
+        return Room::Short(Refusal::ShortVertices);
     }
     if short(has.indices, c.indices) {
-        return BuiltAnswer::ShortIndices;
+        return Room::Short(Refusal::ShortIndices);
     }
     if short(has.spans, c.spans) | short(has.account, c.account) | short(has.log, c.log) {
-        return BuiltAnswer::ShortRecords;
+        return Room::Short(Refusal::ShortRecords);
     }
-    BuiltAnswer::Complete(c)
+    Room::Enough
 }

@@ -14,7 +14,7 @@ use Rattle.object.specs.declared.Extent.{Extent}
 use Rattle.object.specs.declared.Extent.the-variants.{Box, Cylinder, Unsized}
 use Rattle.object.specs.declared.Section.{Section}
 use Rattle.object.specs.Object.{Shape, sweep, roundSweep, Object}
-use Rattle.scene.specs.declared.Refusal.the-variants.{Length, Trailer, Start, Past, Kind, Counts, Numbers}
+use Rattle.rows.specs.declared.Refusal.the-variants.{Length, Trailer, Start, Past, Kind, Counts, Numbers}
 use Rattle.fields.specs.Fields.{u16At, u32At, f32At, f64At, pointAt, cornerAt, sectionAt, orientationAt, pairAt, cornersAt, sectionsAt, countsAt, holesAt, all32, all64}
 use Rattle.scene.specs.Scene.{Record, bad, good, rest, solidAt, outlineCorners, outlineAt, sweepAt, kindAt, recordAt, Scene, refused, accepted, prepend, recordThen, recordsFrom, trailer, countAt, scene}
 use Rattle.lists.proofs.Loops.{either, unless}

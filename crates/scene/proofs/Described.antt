@@ -12,7 +12,7 @@ use Rattle.lists.proofs.Loops.{either, either-by}
 use Rattle.object.specs.declared.Extent.{Extent}
 use Rattle.object.specs.declared.Extent.the-variants.{Box, Cylinder, Unsized}
 use Rattle.object.specs.Object.{Object, sweep, roundSweep}
-use Rattle.scene.specs.declared.Refusal.the-variants.{Past, Kind, Counts, Numbers}
+use Rattle.rows.specs.declared.Refusal.the-variants.{Past, Kind, Counts, Numbers}
 use Rattle.scene.specs.declared.headers.Body.{Body}
 use Rattle.scene.specs.declared.headers.Body.the-variants.{Solid, Outline, Sweep}
 use Rattle.fields.specs.Fields.{u16At, u32At, f32At, countsAt, all32}

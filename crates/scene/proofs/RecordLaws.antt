@@ -11,7 +11,7 @@ use Rattle.lists.specs.Loops.{list, sumOf}
 use Rattle.object.specs.declared.Section.{Section}
 use Rattle.object.specs.declared.Extent.{Extent}
 use Rattle.object.specs.Object.{Shape}
-use Rattle.scene.specs.declared.Refusal.the-variants.{Past, Kind, Counts}
+use Rattle.rows.specs.declared.Refusal.the-variants.{Past, Kind, Counts}
 use Rattle.fields.specs.Fields.{u16At, u32At, countsAt}
 use Rattle.scene.specs.Scene.{Record, bad, rest, solidAt, outlineCorners, outlineAt, sweepAt, kindAt, recordAt}
 use Rattle.scene.specs.declared.records.RecordEnd.{RecordEnd}

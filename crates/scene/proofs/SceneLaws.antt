@@ -8,8 +8,8 @@ use mathlib.Core.List.{List}
 use lib.ListN.{length}
 use borrow.Author.Tests.{eq-eqb, ne-eqb, lt-ltb, le-ltb}
 use Rattle.object.specs.Object.{Object}
-use Rattle.scene.specs.declared.Refusal.{Refusal}
-use Rattle.scene.specs.declared.Refusal.the-variants.{Length, Trailer, Start}
+use Rattle.rows.specs.declared.Refusal.{Refusal}
+use Rattle.rows.specs.declared.Refusal.the-variants.{Length, Trailer, Start}
 use Rattle.scene.specs.declared.records.RecordEnd.the-variants.{Bad, At}
 use Rattle.scene.specs.declared.scenes.Checked.{Checked}
 use Rattle.scene.specs.declared.scenes.Checked.the-variants.{Refused, Accepted}

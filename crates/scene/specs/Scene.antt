@@ -17,19 +17,8 @@ use Rattle.object.specs.declared.Section.{Section}
 use Rattle.object.specs.declared.Orientation.{Orientation}
 use Rattle.fields.specs.Fields.{u16At, u32At, f32At, pointAt, orientationAt, cornersAt, sectionsAt, countsAt, holesAt, all32, all64}
 use Rattle.object.specs.Object.{Shape, solid, outline, sweep, roundSweep, Object}
-use Rattle.scene.specs.declared.Refusal.{Refusal}
-use Rattle.scene.specs.declared.Refusal.the-variants.{Length, Trailer, Start, Past, Kind, Counts, Numbers}
-
--- ---- refusals: the rows of section 2, by what is checked, and their numbers
-
-abbrev pub numberOf : Refusal → ℕ
-numberOf Length = 1
-numberOf Trailer = 2
-numberOf Start = 3
-numberOf Past = 4
-numberOf Kind = 5
-numberOf Counts = 6
-numberOf Numbers = 7
+use Rattle.rows.specs.declared.Refusal.{Refusal}
+use Rattle.rows.specs.declared.Refusal.the-variants.{Length, Trailer, Start, Past, Kind, Counts, Numbers}
 
 -- ---- one record
 

@@ -22,6 +22,8 @@ use Rattle.scene.specs.Scene.{Scene, accepted, scene}
 use Rattle.lid.specs.Log.{Entry}
 use Rattle.scene_mesh.specs.Demand3.{AccountHolds, AreasFollow, SpansFollow, EndToEnd, LongEnough, measured, Demand3Of, Demand3}
 use Rattle.scene_mesh.specs.Mesh.{Span, Account, accountsOf, logsOf, meshOf}
+use Rattle.scene_mesh.specs.declared.Room.{Room}
+use Rattle.scene_mesh.specs.declared.Room.the-variants.{Enough}
 use Rattle.scene_mesh.specs.PerBuffer.{PerBuffer, each, at, Counts, Buffers}
 use Rattle.scene_mesh.specs.Operations.{countsOf, output, done, tooShort, measureScene, measure, buildOutput, buildScene, build}
 use Rattle.coords.proofs.Buffers.{vertices-size, vertices-back}
@@ -54,15 +56,15 @@ written-holds limit above os near =
 
 -- ---- what Build leaves in the measured first parts of long enough buffers is that, whatever they held
 
-pub long-enough : (has needs : Counts) → LongEnough has needs → tooShort has needs ≡ 0
+pub long-enough : (has needs : Counts) → LongEnough has needs → tooShort has needs ≡ Enough
 unfolding tooShort
 long-enough has needs l =
     let fits : PerBuffer (λ k. ltb (at has k) (at needs k) ≡ false) = each (λ k. le-ltb (at has k) (at needs k) (at l k)) in
     rw (fits .vertices, fits .normals, fits .indices, fits .spans, fits .account, fits .log)
 
-built : (written b : Buffers) (n : ℕ) → n ≡ 0 → measured (countsOf written) (buildOutput written b n .buffers) ≡ written
+built : (written b : Buffers) (n : Room) → n ≡ Enough → measured (countsOf written) (buildOutput written b n .buffers) ≡ written
 unfolding buildOutput
-built w b n h = ap (λ (k : ℕ). measured (countsOf w) (buildOutput w b k .buffers)) h ∙ measured-is-written w b
+built w b n h = ap (λ (k : Room). measured (countsOf w) (buildOutput w b k .buffers)) h ∙ measured-is-written w b
 
 scene-built : (limit : Float) (os : List Object) (b : Buffers) (s : Scene) → s ≡ accepted os → LongEnough (countsOf b) (measureScene limit s .counts)
     → measured (measureScene limit s .counts) (buildScene limit s b .buffers) ≡ output limit os

@@ -1,6 +1,6 @@
 -- Document 01, section 2: Measure and Build on lists, with every refusal.
 -- A call is answered by a number (0 where it is not refused), the object named and the counts.
-use Prim.Native.Nat.{ℕ, zero, suc}
+use Prim.Native.Nat.{ℕ}
 use mathlib.Core.Bool.{_||_, cond}
 use mathlib.Core.List.{List}
 use lib.ListN.{length}
@@ -10,8 +10,13 @@ use Rattle.lists.specs.Loops.{over}
 use Rattle.float.specs.Number.{minArea}
 use Rattle.coords.specs.Buffers.{vertexNumbers, normalNumbers}
 use Rattle.object.specs.Object.{Object}
-use Rattle.scene.specs.Scene.{Scene, refused, accepted, scene, numberOf}
+use Rattle.rows.specs.declared.Refusal.{Refusal}
+use Rattle.rows.specs.declared.Refusal.the-variants.{ShortVertices, ShortIndices, ShortRecords}
+use Rattle.rows.specs.Rows.{numberOf}
+use Rattle.scene.specs.Scene.{Scene, refused, accepted, scene}
 use Rattle.lid.specs.Log.{Entry, logNumbers}
+use Rattle.scene_mesh.specs.declared.Room.{Room}
+use Rattle.scene_mesh.specs.declared.Room.the-variants.{Enough, Short}
 use Rattle.scene_mesh.specs.PerBuffer.{each, at, Counts, Buffers, lent}
 use Rattle.scene_mesh.specs.Mesh.{Account, Mesh, meshOf, accountsOf, logsOf, spanNumbers, accountNumbers}
 
@@ -23,8 +28,8 @@ pub record Answer : Type 0 where
 unfoldable pub noCounts : Counts
 noCounts = each (λ k. 0)
 
-unfoldable pub refusedWith : ℕ → ℕ → Answer
-refusedWith number object = record { number = number; object = object; counts = noCounts }
+unfoldable pub refusedWith : Refusal → ℕ → Answer
+refusedWith f object = record { number = numberOf f; object = object; counts = noCounts }
 
 -- a mesh, accounts and a log as numbers
 abbrev pub written : Mesh → List Account → List Entry → Buffers
@@ -43,7 +48,7 @@ done written = record { number = 0; object = 0; counts = countsOf written }
 -- ---- Measure
 
 unfoldable pub measureScene : Float → Scene → Answer
-measureScene limit (refused r object) = refusedWith (numberOf r) object
+measureScene limit (refused f object) = refusedWith f object
 measureScene limit (accepted os) = done (output limit os)
 
 unfoldable pub measure : List ℕ → Answer
@@ -51,13 +56,13 @@ measure bytes = measureScene minArea (scene bytes)
 
 -- ---- Build
 
--- the number of the first buffer that is too short, 0 where none is
-unfoldable pub tooShort : Counts → Counts → ℕ
+-- the row of the first buffer that is too short
+unfoldable pub tooShort : Counts → Counts → Room
 tooShort has needs =
-    cond (ltb (has .vertices) (needs .vertices) || ltb (has .normals) (needs .normals)) 8
-    (cond (ltb (has .indices) (needs .indices)) 9
-    (cond (ltb (has .spans) (needs .spans) || ltb (has .account) (needs .account) || ltb (has .log) (needs .log)) 10
-    0))
+    cond (ltb (has .vertices) (needs .vertices) || ltb (has .normals) (needs .normals)) (Short ShortVertices)
+    (cond (ltb (has .indices) (needs .indices)) (Short ShortIndices)
+    (cond (ltb (has .spans) (needs .spans) || ltb (has .account) (needs .account) || ltb (has .log) (needs .log)) (Short ShortRecords)
+    Enough))
 
 -- the buffers with what is written over their first parts
 unfoldable pub overlay : Buffers → Buffers → Buffers
@@ -68,12 +73,16 @@ pub record Built : Type 0 where
   pub answer : Answer
   pub buffers : Buffers
 
-unfoldable pub buildOutput : Buffers → Buffers → ℕ → Built
-buildOutput written b zero = record { answer = done written; buffers = overlay written b }
-buildOutput written b (suc n) = record { answer = refusedWith (suc n) 0; buffers = b }
+-- a refused call leaves the buffers as they were
+abbrev pub refusedBuild : Refusal → ℕ → Buffers → Built
+refusedBuild f object b = record { answer = refusedWith f object; buffers = b }
+
+unfoldable pub buildOutput : Buffers → Buffers → Room → Built
+buildOutput written b Enough = record { answer = done written; buffers = overlay written b }
+buildOutput written b (Short f) = refusedBuild f 0 b
 
 unfoldable pub buildScene : Float → Scene → Buffers → Built
-buildScene limit (refused r object) b = record { answer = refusedWith (numberOf r) object; buffers = b }
+buildScene limit (refused f object) b = refusedBuild f object b
 buildScene limit (accepted os) b = let w = output limit os in buildOutput w b (tooShort (countsOf b) (countsOf w))
 
 unfoldable pub build : List ℕ → Buffers → Built

@@ -6,7 +6,7 @@ ghost use Rattle.scene.specs.Scene.{scene, recordsFrom};
 ghost use Rattle.scene.specs.Answers.{checkedOf};
 use fields::u32_in;
 use records::check_record;
-use scene::Refusal;
+use rows::Refusal;
 use scene::records::RecordEnd;
 use scene::scenes::Checked;
 

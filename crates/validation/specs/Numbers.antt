@@ -2,9 +2,10 @@
 -- verdict, in the order of the Rust's cases; the index that names no vertex; the place, which is the vertex or the triangle; and the count of vertices. What
 -- a case does not have is 0.
 use Prim.Native.Nat.{ℕ}
+use Rattle.rows.specs.Rows.{numberOf}
 use Rattle.validation.specs.declared.Judgement.{Judgement}
 use Rattle.validation.specs.declared.Validation.{Validation}
-use Rattle.validation.specs.declared.Validation.the-variants.{Judged, PartialVertex}
+use Rattle.validation.specs.declared.Validation.the-variants.{Judged, Refused}
 use Rattle.validation.specs.declared.Verdict.{Verdict}
 use Rattle.validation.specs.declared.Verdict.the-variants.{Ok, Empty, NonFiniteVertex, IndexOutOfRange, DegenerateTriangle}
 
@@ -20,4 +21,4 @@ verdictNumbers (DegenerateTriangle t) = judgement 0 4 0 t 0
 
 unfoldable pub validationNumbers : Validation → Judgement
 validationNumbers (Judged v) = verdictNumbers v
-validationNumbers PartialVertex = judgement 11 0 0 0 0
+validationNumbers (Refused f) = judgement (numberOf f) 0 0 0 0

@@ -13,8 +13,9 @@ use Rattle.coords.specs.declared.Point.{Point}
 use Rattle.coords.specs.Buffers.{verticesIn}
 unfoldable pub use Rattle.validation.specs.Faults.{degenerate}
 pub use Rattle.validation.specs.Faults.{notFinite}
+use Rattle.rows.specs.declared.Refusal.the-variants.{PartialVertex}
 use Rattle.validation.specs.declared.Validation.{Validation}
-use Rattle.validation.specs.declared.Validation.the-variants.{Judged, PartialVertex}
+use Rattle.validation.specs.declared.Validation.the-variants.{Judged, Refused}
 use Rattle.validation.specs.declared.Verdict.{Verdict}
 use Rattle.validation.specs.declared.Verdict.the-variants.{Ok, Empty, NonFiniteVertex, IndexOutOfRange, DegenerateTriangle}
 
@@ -63,7 +64,7 @@ verdict limit vs is =
 -- ---- Validate, with its refusal: the verdict, or PartialVertex where the coordinates' number is no multiple of 3
 
 unfoldable pub validateAt : Float → List Float → List ℕ → Validation
-validateAt limit vertices indices = cond (eqb (length vertices % 3) 0) (Judged (verdict limit (verticesIn vertices) indices)) PartialVertex
+validateAt limit vertices indices = cond (eqb (length vertices % 3) 0) (Judged (verdict limit (verticesIn vertices) indices)) (Refused PartialVertex)
 
 unfoldable pub validate : List Float → List ℕ → Validation
 validate vertices indices = validateAt minArea vertices indices

@@ -1,6 +1,8 @@
 // What Validate answers, and the numbers that C gets for it.
 ghost use mathlib.Core.Path.{_≡_};
 ghost use Rattle.validation.specs.Numbers.{judgement, verdictNumbers, validationNumbers};
+use rows::Refusal;
+use rows::refusal_number;
 
 pub enum Verdict {
     Ok,
@@ -14,10 +16,10 @@ pub enum Verdict {
     DegenerateTriangle(usize),
 }
 
-// What Validate answers: a verdict, or that the vertices' numbers are no whole threes.
+// What Validate answers: a verdict, or by which row the call is refused.
 pub enum Validation {
     Judged(Verdict),
-    PartialVertex,
+    Refused(Refusal),
 }
 
 // A validation in numbers: `validationNumbers` of specs/Numbers.antt gives them for each case.
@@ -66,7 +68,7 @@ impl Validation {
     {
         match self {
             Validation::Judged(v) => v.numbers(),
-            Validation::PartialVertex => Judgement::new(11, 0, 0, 0, 0),
+            Validation::Refused(f) => Judgement::new(refusal_number(f), 0, 0, 0, 0),
         }
     }
 }

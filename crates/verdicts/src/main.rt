@@ -4,6 +4,7 @@
 ghost use mathlib.Core.Path.{_≡_};
 ghost use lib.ListN.{length};
 use libc::STDOUT_FILENO;
+use rows::refusal_number;
 use validation::Validation;
 use validation::Verdict;
 
@@ -81,7 +82,11 @@ fn say_verdict(v: Verdict) {
 fn say(v: Validation) {
     match v {
         Validation::Judged(verdict) => say_verdict(verdict),
-        Validation::PartialVertex => write(b"refused 11 0"),
+        Validation::Refused(f) => {
+            write(b"refused ");
+            write_number(refusal_number(f) as u64);
+            write(b" 0")
+        }
     }
     write(b"\n");
 }

@@ -17,7 +17,7 @@ returns : tie.Need-returns
 unfolding countsOf
 returns c =
     let a = c .before .before .before .before .before .before .before .before .before .before .before .args in
-    (rw (c .before .a .given .1) at (c .before .before .before .plan-scene .ensures)) (lent (a .vertices .now) (a .normals .now) (a .indices .now) (a .spans .now) (a .account .now) (a .log .now)) refl
+    (rw (c .before .f .given .1) at (c .before .before .before .plan-scene .ensures)) (lent (a .vertices .now) (a .normals .now) (a .indices .now) (a .spans .now) (a .account .now) (a .log .now)) refl
 
 returns-2 : tie.Need-returns-2
 unfolding countsOf

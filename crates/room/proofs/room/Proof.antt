@@ -1,24 +1,24 @@
 -- `room::room` meets its contract. Assumes nothing.
-use Rattle.answers.specs.Answers.{roomFor}
+use Rattle.scene_mesh.specs.Operations.{tooShort}
 use Rattle.room.proofs.room.Statement.{statement}
 use Rattle.room.proofs.room.Tie as tie
 
 returns : tie.Need-returns
-unfolding roomFor
+unfolding tooShort
 returns c = rw (← c .before .before .short .ensures, ← c .before .short2 .ensures, c .if1 .taken)
 
 returns-2 : tie.Need-returns-2
-unfolding roomFor
+unfolding tooShort
 returns-2 c = rw (← c .before .before .before .before .short .ensures, ← c .before .before .before .short2 .ensures, c .before .before .if1 .left, ← c .before .short3 .ensures, c .if2 .taken)
 
 returns-3 : tie.Need-returns-3
-unfolding roomFor
+unfolding tooShort
 returns-3 c =
     let d = c .before .before .before .before in
     rw (← d .before .before .before .before .short .ensures, ← d .before .before .before .short2 .ensures, d .before .before .if1 .left, ← d .before .short3 .ensures, d .if2 .left, ← c .before .before .before .short4 .ensures, ← c .before .before .short5 .ensures, ← c .before .short6 .ensures, c .if3 .taken)
 
 returns-4 : tie.Need-returns-4
-unfolding roomFor
+unfolding tooShort
 returns-4 c =
     let d = c .before .before .before .before in
     rw (← d .before .before .before .before .short .ensures, ← d .before .before .before .short2 .ensures, d .before .before .if1 .left, ← d .before .short3 .ensures, d .if2 .left, ← c .before .before .before .short4 .ensures, ← c .before .before .short5 .ensures, ← c .before .short6 .ensures, c .if3 .left)

@@ -17,9 +17,10 @@ use Rattle.coords.specs.Buffers.{vertexNumbers, verticesIn}
 use Rattle.object.specs.Object.{Object}
 use Rattle.face.specs.Faces.{writeFaces}
 use Rattle.shapes.specs.Shapes.{facesOf}
+use Rattle.rows.specs.declared.Refusal.the-variants.{PartialVertex}
 use Rattle.validation.specs.declared.Verdict.{Verdict}
 use Rattle.validation.specs.declared.Verdict.the-variants.{Ok, Empty}
-use Rattle.validation.specs.declared.Validation.the-variants.{Judged, PartialVertex}
+use Rattle.validation.specs.declared.Validation.the-variants.{Judged, Refused}
 use Rattle.validation.specs.Validate.{verdict, validateAt}
 use Rattle.scene_mesh.specs.Mesh.{keptBy, pieceOf, addPiece, meshFrom, meshOf}
 use Rattle.scene_mesh.specs.Operations.{output}
@@ -81,7 +82,7 @@ module _ (limit : Float) (above : Above limit) where
 pub validate-is : (limit : Float) (ps : List Point) (is : List ℕ) → validateAt limit (vertexNumbers ps) is ≡ Judged (verdict limit ps is)
 unfolding validateAt
 validate-is limit ps is =
-    ap (λ (n : ℕ). cond (eqb n 0) (Judged (verdict limit (verticesIn (vertexNumbers ps)) is)) PartialVertex) (ap (λ (n : ℕ). n % 3) (vertices-size ps) ∙ mul-mod-right 3 (size ps))
+    ap (λ (n : ℕ). cond (eqb n 0) (Judged (verdict limit (verticesIn (vertexNumbers ps)) is)) (Refused PartialVertex)) (ap (λ (n : ℕ). n % 3) (vertices-size ps) ∙ mul-mod-right 3 (size ps))
     ∙ ap (λ (l : List Point). Judged (verdict limit l is)) (vertices-back ps)
 
 -- at any limit above zero, of objects whose numbers are within bounds

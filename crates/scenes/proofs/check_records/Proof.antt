@@ -7,7 +7,7 @@ use borrow.Author.Needs.{needs}
 use Rattle.scene.proofs.SceneLaws.{plus, plus-none, ahead, ahead-all, ahead-start, ahead-bad, ahead-good, ahead-end, ahead-short}
 use Rattle.scene.specs.Answers.{checkedOf}
 use Rattle.scene.specs.Scene.{recordsFrom}
-use Rattle.scene.specs.declared.Refusal.the-variants.{Start}
+use Rattle.rows.specs.declared.Refusal.the-variants.{Start}
 use Rattle.scene.specs.declared.scenes.Checked.the-variants.{Refused, Accepted}
 use Rattle.scenes.proofs.check_records.Statement.{statement}
 use Rattle.scenes.proofs.check_records.Tie as tie

@@ -1,12 +1,11 @@
 -- `answers::Answer::refused` meets its contract. Assumes nothing.
-use Rattle.scene_mesh.specs.PerBuffer.{Counts}
 use Rattle.scene_mesh.specs.Operations.{refusedWith}
 use Rattle.answers.proofs.Answer.refused.Statement.{statement}
 use Rattle.answers.proofs.Answer.refused.Tie as tie
 
 returns : tie.Need-returns
 unfolding refusedWith
-returns c = λ i. record { number = c .before .args .refusal; object = c .before .args .object; counts = c .none .ensures i }
+returns c = λ i. record { number = c .before .refusal-number .ensures i; object = c .before .before .args .object; counts = c .none .ensures i }
 
 pub refused-spec : {M : Type 1} → statement M
-refused-spec = tie.close (tie.spec (λ c κs. tt) returns)
+refused-spec = tie.close (tie.spec (λ c κs. tt) (λ c κs. tt) returns)

@@ -1,9 +1,9 @@
--- `BuiltAnswer::mesh_lengths` meets its contract. Assumes nothing.
+-- `Answered::mesh_lengths` meets its contract. Assumes nothing.
 use mathlib.Core.Path.{ap}
 use borrow.Author.Needs.{needs}
 use Rattle.scene_mesh.specs.Operations.{Answer}
-use Rattle.answers.proofs.BuiltAnswer.mesh_lengths.Statement.{statement}
-use Rattle.answers.proofs.BuiltAnswer.mesh_lengths.Tie as tie
+use Rattle.answers.proofs.Answered.mesh_lengths.Statement.{statement}
+use Rattle.answers.proofs.Answered.mesh_lengths.Tie as tie
 
 returns : tie.Need-returns
 returns c =
