@@ -31,59 +31,47 @@ unfolding buildOutput done countsOf overlay refusedWith noCounts over
 output-fits w b Enough = (omega (arith, length-append (w .vertices) (drop (length (w .vertices)) (b .vertices))), omega (arith, length-append (w .indices) (drop (length (w .indices)) (b .indices))))
 output-fits w b (Short f) = (zero-le, zero-le)
 
-scene-fits : (t : Scene) (b : Buffers)
-    → (buildScene minArea t b .answer .counts .vertices ≤ length (buildScene minArea t b .buffers .vertices)) × (buildScene minArea t b .answer .counts .indices ≤ length (buildScene minArea t b .buffers .indices))
-unfolding buildScene refusedWith noCounts
-scene-fits (refused r object) b = (zero-le, zero-le)
-scene-fits (accepted os) b = output-fits (output minArea os) b (tooShort (countsOf b) (countsOf (output minArea os)))
+module _ (limit : Float) where
+  scene-fits : (t : Scene) (b : Buffers)
+      → (buildScene limit t b .answer .counts .vertices ≤ length (buildScene limit t b .buffers .vertices)) × (buildScene limit t b .answer .counts .indices ≤ length (buildScene limit t b .buffers .indices))
+  unfolding buildScene refusedWith noCounts
+  scene-fits (refused r object) b = (zero-le, zero-le)
+  scene-fits (accepted os) b = output-fits (output limit os) b (tooShort (countsOf b) (countsOf (output limit os)))
 
-scene-answer : (t : Scene) (b : Buffers) (os : List Object) → t ≡ accepted os → LongEnough (countsOf b) (measureScene minArea t .counts) → buildScene minArea t b .answer ≡ measureScene minArea t
-unfolding measureScene buildScene buildOutput done
-scene-answer t b os e l =
-    let w = output minArea os in
-    let enough : tooShort (countsOf b) (countsOf w) ≡ Enough = long-enough (countsOf b) (countsOf w) (subst (λ (x : Scene). LongEnough (countsOf b) (measureScene minArea x .counts)) e l) in
-    ap (λ (x : Scene). buildScene minArea x b .answer) e ∙ ap (λ (n : Room). buildOutput w b n .answer) enough ∙ sym (ap (measureScene minArea) e)
+  scene-answer : (t : Scene) (b : Buffers) (os : List Object) → t ≡ accepted os → LongEnough (countsOf b) (measureScene limit t .counts) → buildScene limit t b .answer ≡ measureScene limit t
+  unfolding measureScene buildScene buildOutput done
+  scene-answer t b os e l =
+      let w = output limit os in
+      let enough : tooShort (countsOf b) (countsOf w) ≡ Enough = long-enough (countsOf b) (countsOf w) (subst (λ (x : Scene). LongEnough (countsOf b) (measureScene limit x .counts)) e l) in
+      ap (λ (x : Scene). buildScene limit x b .answer) e ∙ ap (λ (n : Room). buildOutput w b n .answer) enough ∙ sym (ap (measureScene limit) e)
 
-module _ (s : List ℕ) where
-  pub measure-refused : (f : Refusal) (object : ℕ) → CheckedRefused f object ≡ checkedOf (scene s) → answerOf (Refused f object) ≡ measure s
-  unfolding measure measureScene
-  measure-refused f object h = sym (ap (measureScene minArea) (checked-refused (scene s) f object h))
+  module _ (s : List ℕ) (b : Buffers) where
+    pub build-refused : (f : Refusal) (object : ℕ) → CheckedRefused f object ≡ checkedOf (scene s) → builtWith (Refused f object) b ≡ buildScene limit (scene s) b
+    unfolding buildScene
+    build-refused f object h = sym (ap (λ (t : Scene). buildScene limit t b) (checked-refused (scene s) f object h))
 
-  pub measure-accepted : (n : ℕ) (c : Counted) → Accepted n ≡ checkedOf (scene s) → ((os : List Object) → scene s ≡ accepted os → countsFrom c ≡ countsOf (output minArea os))
-      → answerOf (CountsAre c) ≡ measure s
-  unfolding measure measureScene done
-  measure-accepted n c h k =
-      let q = checked-accepted s n h in
-      (λ i. record { number = 0; object = 0; counts = k (objectsOf (scene s)) (q .is) i }) ∙ sym (ap (measureScene minArea) (q .is))
+    pub build-accepted : (n : ℕ) (r : Built) → Accepted n ≡ checkedOf (scene s) → ((os : List Object) → scene s ≡ accepted os → r ≡ buildScene limit (accepted os) b) → r ≡ buildScene limit (scene s) b
+    build-accepted n r h k = let q = checked-accepted s n h in k (objectsOf (scene s)) (q .is) ∙ sym (ap (λ (t : Scene). buildScene limit t b) (q .is))
 
-  module _ (b : Buffers) where
-    pub build-refused : (f : Refusal) (object : ℕ) → CheckedRefused f object ≡ checkedOf (scene s) → builtWith (Refused f object) b ≡ build s b
-    unfolding build buildScene
-    build-refused f object h = sym (ap (λ (t : Scene). buildScene minArea t b) (checked-refused (scene s) f object h))
+-- ---- Validate behind it
 
-    pub build-accepted : (n : ℕ) (r : Built) → Accepted n ≡ checkedOf (scene s) → ((os : List Object) → scene s ≡ accepted os → r ≡ buildScene minArea (accepted os) b) → r ≡ build s b
-    unfolding build
-    build-accepted n r h k = let q = checked-accepted s n h in k (objectsOf (scene s)) (q .is) ∙ sym (ap (λ (t : Scene). buildScene minArea t b) (q .is))
+module _ (s : List ℕ) (b : Buffers) {r : Built} (e : r ≡ build s b) where
+  pub vertices-fit : {v : ℕ} → v ≡ r .answer .counts .vertices → v ≤ length (r .buffers .vertices)
+  unfolding build
+  vertices-fit h = rw (h, e) (scene-fits minArea (scene s) b .0)
 
-    -- ---- Validate behind it
+  pub indices-fit : {i : ℕ} → i ≡ r .answer .counts .indices → i ≤ length (r .buffers .indices)
+  unfolding build
+  indices-fit h = rw (h, e) (scene-fits minArea (scene s) b .1)
 
-    module _ {r : Built} (e : r ≡ build s b) where
-      pub vertices-fit : {v : ℕ} → v ≡ r .answer .counts .vertices → v ≤ length (r .buffers .vertices)
-      unfolding build
-      vertices-fit h = rw (h, e) (scene-fits (scene s) b .0)
+  pub both-are : (v i : ℕ) (x : Validation) → v ≡ r .answer .counts .vertices → i ≡ r .answer .counts .indices → x ≡ validate (take v (r .buffers .vertices)) (take i (r .buffers .indices))
+      → _≡_ {A = BuiltAndJudged} (record { built = r; validation = x }) (buildAndValidate s b)
+  unfolding buildAndValidate judged
+  both-are v i x p q h =
+      (λ j. record { built = r; validation = (h ∙ ap₂ (λ (v i : ℕ). validate (take v (r .buffers .vertices)) (take i (r .buffers .indices))) p q) j }) ∙ ap judged e
 
-      pub indices-fit : {i : ℕ} → i ≡ r .answer .counts .indices → i ≤ length (r .buffers .indices)
-      unfolding build
-      indices-fit h = rw (h, e) (scene-fits (scene s) b .1)
-
-      pub both-are : (v i : ℕ) (x : Validation) → v ≡ r .answer .counts .vertices → i ≡ r .answer .counts .indices → x ≡ validate (take v (r .buffers .vertices)) (take i (r .buffers .indices))
-          → _≡_ {A = BuiltAndJudged} (record { built = r; validation = x }) (buildAndValidate s b)
-      unfolding buildAndValidate judged
-      both-are v i x p q h =
-          (λ j. record { built = r; validation = (h ∙ ap₂ (λ (v i : ℕ). validate (take v (r .buffers .vertices)) (take i (r .buffers .indices))) p q) j }) ∙ ap judged e
-
-      pub demand3-built : (os : List Object) → scene s ≡ accepted os → LongEnough (countsOf b) (measure s .counts) → Demand3Of minArea os (measured (r .answer .counts) (r .buffers))
-      unfolding build measure
-      demand3-built os h l =
-          subst (λ (r : Built). Demand3Of minArea os (measured (r .answer .counts) (r .buffers))) (sym e)
-          (subst (λ (a : Answer). Demand3Of minArea os (measured (a .counts) (buildScene minArea (scene s) b .buffers))) (sym (scene-answer (scene s) b os h l)) (demand3 s os b h l))
+  pub demand3-built : (os : List Object) → scene s ≡ accepted os → LongEnough (countsOf b) (measure s .counts) → Demand3Of minArea os (measured (r .answer .counts) (r .buffers))
+  unfolding build measure
+  demand3-built os h l =
+      subst (λ (r : Built). Demand3Of minArea os (measured (r .answer .counts) (r .buffers))) (sym e)
+      (subst (λ (a : Answer). Demand3Of minArea os (measured (a .counts) (buildScene minArea (scene s) b .buffers))) (sym (scene-answer minArea (scene s) b os h l)) (demand3 s os b h l))

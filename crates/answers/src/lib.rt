@@ -1,6 +1,5 @@
 // What the operations answer: specs/Answers.antt gives document 01's number and values for each case.
 ghost use mathlib.Core.Path.{_≡_};
-ghost use Rattle.float.specs.Number.{minArea};
 ghost use Rattle.scene_mesh.specs.Operations.{noCounts, refusedWith};
 ghost use Rattle.answers.specs.Answers.{countsFrom, accepts, answerFrom, answerOf};
 use rows::Refusal;
@@ -44,13 +43,6 @@ pub struct MeshLengths {
 pub struct JudgedBuild {
     pub answer: Answered,
     pub validation: Validation,
-}
-
-// Twice the area, in square metres, below which a triangle has none worth drawing.
-pub fn min_area() -> f32
-    ensures { λ r. ⌜ r ≡ minArea ⌝ }
-{
-    0.000001
 }
 
 // The refusal, 0 where there is none, the object named, and the counts.

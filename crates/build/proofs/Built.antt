@@ -10,7 +10,6 @@ use lib.Dec.{ltb}
 use lib.Ieee.{Float}
 use borrow.Author.Tests.{ltb-false}
 use Rattle.object.specs.Object.{Object}
-use Rattle.float.specs.Number.{minArea}
 use Rattle.rows.specs.declared.Refusal.{Refusal}
 use Rattle.scene.specs.declared.scenes.Checked.the-variants.{Refused as CheckedRefused, Accepted}
 use Rattle.scene.specs.Scene.{accepted, scene}
@@ -21,7 +20,7 @@ use Rattle.scene_mesh.specs.declared.Room.{Room}
 use Rattle.scene_mesh.specs.declared.Room.the-variants.{Enough, Short}
 use Rattle.scene_mesh.specs.PerBuffer.{Buffer, each, at, Counts, Buffers}
 use Rattle.scene_mesh.specs.PerBuffer.Buffer.{vertices, normals, indices, spans, account, log}
-use Rattle.scene_mesh.specs.Operations.{output, countsOf, done, tooShort, overlay, refusedBuild, buildOutput, buildScene, build}
+use Rattle.scene_mesh.specs.Operations.{output, countsOf, done, tooShort, overlay, refusedBuild, buildOutput, buildScene}
 use Rattle.answers.specs.Answers.{countsFrom, builtWith}
 use Rattle.answers.proofs.Calls.{build-refused, build-accepted}
 use Rattle.room.proofs.Rooms.{noVertices, noIndices, noRecords}
@@ -100,11 +99,11 @@ few-fit p q h =
     record { vertices = omega (arith, p .vertices, q .vertices); normals = omega (arith, p .vertices, q .vertices); indices = omega (arith, p .triangles, q .triangles); spans = omega (arith, p .spans, q .spans); account = omega arith; log = omega (arith, p .entries, q .entries) }
 
 -- all objects written into buffers with room for them
-built-whole : (os : List Object) (b : Buffers) (c : Counted) → countsFrom c ≡ countsOf (output minArea os) → (b′ : Buffers) → LongEnough (countsOf b) (countsOf (output minArea os)) → b′ ≡ stored (output minArea os) b
-    → builtWith (CountsAre c) b′ ≡ buildScene minArea (accepted os) b
+built-whole : (limit : Float) (os : List Object) (b : Buffers) (c : Counted) → countsFrom c ≡ countsOf (output limit os) → (b′ : Buffers) → LongEnough (countsOf b) (countsOf (output limit os)) → b′ ≡ stored (output limit os) b
+    → builtWith (CountsAre c) b′ ≡ buildScene limit (accepted os) b
 unfolding buildScene buildOutput countsOf done
-built-whole os b c e b′ l r =
-    let w = output minArea os in
+built-whole limit os b c e b′ l r =
+    let w = output limit os in
     (λ i. record { answer = record { number = 0; object = 0; counts = e i }; buffers = (r ∙ stored-over w b l) i })
     ∙ ap (buildOutput w b) (sym (long-enough (countsOf b) (countsOf w) l))
 
@@ -120,31 +119,31 @@ module _ (has : Counts) (n : ℕ) {counted needs : Counts} (e : counted ≡ need
 
 -- ---- the plan for a scene
 
-module _ (s : List ℕ) (has : Counts) where
-  pub plan-refused : (f : Refusal) (object : ℕ) → CheckedRefused f object ≡ checkedOf (scene s) → PlanHolds s has (Refuse f object)
-  plan-refused f object h = λ b e. build-refused s b f object h
+module _ (limit : Float) (s : List ℕ) (has : Counts) where
+  pub plan-refused : (f : Refusal) (object : ℕ) → CheckedRefused f object ≡ checkedOf (scene s) → PlanHolds limit s has (Refuse f object)
+  plan-refused f object h = λ b e. build-refused limit s b f object h
 
   module _ (n : ℕ) (h : Accepted n ≡ checkedOf (scene s)) {a b : Most} where
     -- with room for both parts, each measured or not
-    pub plan-bounded : (others lids : Bool) → SumOf s false others a → SumOf s true lids b → {r : Plan} {k : ℕ} → r ≡ Write k → PlanBy has (numbersOf (together a b) n) n r → PlanHolds s has (Write n)
+    pub plan-bounded : (others lids : Bool) → SumOf limit s false others a → SumOf limit s true lids b → {r : Plan} {k : ℕ} → r ≡ Write k → PlanBy has (numbersOf (together a b) n) n r → PlanHolds limit s has (Write n)
     plan-bounded others lids p q is d =
         let x = subst (PlanBy has (numbersOf (together a b) n) n) is d in
-        (h, λ os e. let most = most-enough minArea others lids os in (longer (subst (LongEnough has) (parts-counts s n h os e others lids p q) (x .1)) most, fewer (subst FitCounts (parts-counts s n h os e others lids p q) (x .2)) most))
+        (h, λ os e. let most = most-enough limit others lids os in (longer (subst (LongEnough has) (parts-counts limit s n h os e others lids p q) (x .1)) most, fewer (subst FitCounts (parts-counts limit s n h os e others lids p q) (x .2)) most))
 
     -- with both measured
-    pub plan-measured : SumOf s false true a → SumOf s true true b → (r : Plan) → PlanBy has (numbersOf (together a b) n) n r → PlanHolds s has r
+    pub plan-measured : SumOf limit s false true a → SumOf limit s true true b → (r : Plan) → PlanBy has (numbersOf (together a b) n) n r → PlanHolds limit s has r
     unfolding buildScene
     plan-measured p q (Refuse x object) d =
-        λ lent f. build-accepted s lent n (refusedBuild x object lent) h (λ os e. d (output minArea os) lent ∙ ap₂ (λ (x y : Counts). buildOutput (output minArea os) lent (tooShort x y)) (sym f) (measured-counts s n h os e p q))
+        λ lent f. build-accepted limit s lent n (refusedBuild x object lent) h (λ os e. d (output limit os) lent ∙ ap₂ (λ (x y : Counts). buildOutput (output limit os) lent (tooShort x y)) (sym f) (measured-counts limit s n h os e p q))
     plan-measured p q (Write k) d =
-        (subst (λ (m : ℕ). Accepted m ≡ checkedOf (scene s)) (sym (d .0)) h, λ os e. (subst (LongEnough has) (measured-counts s n h os e p q) (d .1), subst FitCounts (measured-counts s n h os e p q) (d .2)))
+        (subst (λ (m : ℕ). Accepted m ≡ checkedOf (scene s)) (sym (d .0)) h, λ os e. (subst (LongEnough has) (measured-counts limit s n h os e p q) (d .1), subst FitCounts (measured-counts limit s n h os e p q) (d .2)))
 
   -- the planned objects fit the program's counts
-  pub can-write : (n : ℕ) (limit : Float) → PlanHolds s has (Write n) → limit ≡ minArea → CanAddAll limit s beginning
-  can-write n limit p l = λ os b e. counts-fit limit os b (subst (λ (x : Float). FitCounts (countsOf (output x os))) (sym l) (p .1 os e .1))
+  pub can-write : (n : ℕ) → PlanHolds limit s has (Write n) → CanAddAll limit s beginning
+  can-write n p = λ os b e. counts-fit limit os b (p .1 os e .1)
 
-  pub built-planned : (n : ℕ) (limit : Float) (b b′ : Buffers) (c : Counted) → PlanHolds s has (Write n) → countsOf b ≡ has → limit ≡ minArea
-      → ((os : List Object) → scene s ≡ accepted os → WroteAll limit os c b b′) → builtWith (CountsAre c) b′ ≡ build s b
-  built-planned n limit b b′ c p e l k =
-      build-accepted s b n (builtWith (CountsAre c) b′) (p .0)
-      (λ os q. let w = subst (λ (x : Float). WroteAll x os c b b′) l (k os q) in built-whole os b c (w .counts) b′ (subst (λ (x : Counts). LongEnough x (countsOf (output minArea os))) (sym e) (p .1 os q .0)) (w .buffers))
+  pub built-planned : (n : ℕ) (b b′ : Buffers) (c : Counted) → PlanHolds limit s has (Write n) → countsOf b ≡ has → ((os : List Object) → scene s ≡ accepted os → WroteAll limit os c b b′)
+      → builtWith (CountsAre c) b′ ≡ buildScene limit (scene s) b
+  built-planned n b b′ c p e k =
+      build-accepted limit s b n (builtWith (CountsAre c) b′) (p .0)
+      (λ os q. built-whole limit os b c (k os q .counts) b′ (subst (λ (x : Counts). LongEnough x (countsOf (output limit os))) (sym e) (p .1 os q .0)) (k os q .buffers))

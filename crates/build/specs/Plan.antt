@@ -2,13 +2,13 @@
 use mathlib.Core.Path.{_≡_}
 use Prim.Native.Nat.{ℕ}
 use mathlib.Core.List.{List}
-use Rattle.float.specs.Number.{minArea}
+use lib.Ieee.{Float}
 use Rattle.object.specs.Object.{Object}
 use Rattle.scene.specs.declared.scenes.Checked.the-variants.{Accepted}
 use Rattle.scene.specs.Scene.{scene, accepted}
 use Rattle.scene.specs.Answers.{checkedOf}
 use Rattle.scene_mesh.specs.PerBuffer.{Counts, Buffers}
-use Rattle.scene_mesh.specs.Operations.{output, countsOf, tooShort, refusedBuild, buildOutput, build}
+use Rattle.scene_mesh.specs.Operations.{output, countsOf, tooShort, refusedBuild, buildOutput, buildScene}
 use Rattle.scene_mesh.specs.Demand3.{LongEnough}
 use Rattle.progress.specs.Wrote.{FitCounts}
 use Rattle.build.specs.declared.Plan.{Plan}
@@ -19,7 +19,9 @@ abbrev pub PlanBy : Counts → Counts → ℕ → Plan → Type 0
 PlanBy has needs n (Refuse f object) = (w b : Buffers) → refusedBuild f object b ≡ buildOutput w b (tooShort has needs)
 PlanBy has needs n (Write k) = (k ≡ n) × LongEnough has needs × FitCounts needs
 
--- the same for the objects of a scene
-abbrev pub PlanHolds : List ℕ → Counts → Plan → Type 0
-PlanHolds s has (Refuse f object) = (b : Buffers) → countsOf b ≡ has → refusedBuild f object b ≡ build s b
-PlanHolds s has (Write n) = (Accepted n ≡ checkedOf (scene s)) × ((os : List Object) → scene s ≡ accepted os → LongEnough has (countsOf (output minArea os)) × FitCounts (countsOf (output minArea os)))
+-- the same for the objects of a scene, at a limit
+abbrev pub PlanHolds : Float → List ℕ → Counts → Plan → Type 0
+PlanHolds limit s has (Refuse f object) = (b : Buffers) → countsOf b ≡ has → refusedBuild f object b ≡ buildScene limit (scene s) b
+PlanHolds limit s has (Write n) =
+    (Accepted n ≡ checkedOf (scene s))
+    × ((os : List Object) → scene s ≡ accepted os → LongEnough has (countsOf (output limit os)) × FitCounts (countsOf (output limit os)))

@@ -8,14 +8,14 @@ ghost use Rattle.scene.specs.declared.scenes.Checked.the-variants.{Accepted};
 ghost use Rattle.scene.specs.Scene.{scene};
 ghost use Rattle.scene.specs.Answers.{checkedOf};
 ghost use Rattle.scene_mesh.specs.PerBuffer.{entering, leaving};
-ghost use Rattle.scene_mesh.specs.Operations.{build};
+ghost use Rattle.scene_mesh.specs.Operations.{buildScene, build};
 ghost use Rattle.answers.specs.Answers.{lengthsFrom, builtWith};
 ghost use Rattle.most.specs.Most.{numbersOf, together, Few};
 ghost use Rattle.build.specs.Plan.{PlanBy, PlanHolds};
 use crate::pass::write_objects;
 use answers::Answered;
 use answers::Lengths;
-use answers::min_area;
+use float::MIN_AREA;
 use most::Most;
 use room::bound_counts;
 use room::room;
@@ -44,28 +44,65 @@ fn plan_parts(has: Lengths, others: Most, lids: Most, n: u32) -> Plan
 // The n objects of an accepted scene: by the most that they can come to, then with those without
 // lids measured, which takes drawing but no cutting, then with all measured, which is exact and
 // so tells the refusal too. No object is drawn twice for it.
-fn plan_objects(s: &[u8], n: u32, has: Lengths) -> Plan
+fn plan_objects(s: &[u8], n: u32, limit: f32, has: Lengths) -> Plan
     requires { ⌜ Accepted n ≡ checkedOf (scene (now s)) ⌝ }
-    ensures { λ r. ⌜ PlanHolds (now (s .entry)) (lengthsFrom has) r ⌝ }
+    ensures { λ r. ⌜ PlanHolds limit (now (s .entry)) (lengthsFrom has) r ⌝ }
 {
-    let lids = part_of_all(s, n, true, false);
-    let most = part_of_all(s, n, false, false);
+    let lids = part_of_all(s, n, limit, true, false);
+    let most = part_of_all(s, n, limit, false, false);
     if let Plan::Write(_) = plan_parts(has, most, lids, n) {
         return Plan::Write(n);
     }
-    let others = part_of_all(s, n, false, true);
+    let others = part_of_all(s, n, limit, false, true);
     if let Plan::Write(_) = plan_parts(has, others, lids, n) {
         return Plan::Write(n);
     }
-    plan_parts(has, others, part_of_all(s, n, true, true), n)
+    plan_parts(has, others, part_of_all(s, n, limit, true, true), n)
 }
 
-fn plan_scene(s: &[u8], has: Lengths) -> Plan
-    ensures { λ r. ⌜ PlanHolds (now (s .entry)) (lengthsFrom has) r ⌝ }
+fn plan_scene(s: &[u8], limit: f32, has: Lengths) -> Plan
+    ensures { λ r. ⌜ PlanHolds limit (now (s .entry)) (lengthsFrom has) r ⌝ }
 {
     match scenes::check_scene(s) {
         Checked::Refused(f, object) => Plan::Refuse(f, object),
-        Checked::Accepted(n) => plan_objects(s, n, has),
+        Checked::Accepted(n) => plan_objects(s, n, limit, has),
+    }
+}
+
+// At a limit below which a triangle is thin.
+fn build_scene(
+    s: &[u8],
+    limit: f32,
+    vertices: &mut [f32],
+    normals: &mut [f32],
+    indices: &mut [u32],
+    spans: &mut [u32],
+    account: &mut [u32],
+    log: &mut [u32],
+) -> Answered
+    ensures { λ r. ⌜ builtWith r (leaving vertices normals indices spans account log) ≡ buildScene limit (scene (now (s .entry))) (entering vertices normals indices spans account log) ⌝ }
+{
+    let has = Lengths {
+        vertices: vertices.len(),
+        normals: normals.len(),
+        indices: indices.len(),
+        spans: spans.len(),
+        account: account.len(),
+        log: log.len(),
+    };
+    match plan_scene(s, limit, has) {
+        Plan::Refuse(f, object) => Answered::Refused(f, object),
+        Plan::Write(n) => Answered::Counts(write_objects(
+            s,
+            n,
+            limit,
+            vertices,
+            normals,
+            indices,
+            spans,
+            account,
+            log,
+        )),
     }
 }
 
@@ -80,26 +117,5 @@ pub fn build(
 ) -> Answered
     ensures { λ r. ⌜ builtWith r (leaving vertices normals indices spans account log) ≡ build (now (s .entry)) (entering vertices normals indices spans account log) ⌝ }
 {
-    let has = Lengths {
-        vertices: vertices.len(),
-        normals: normals.len(),
-        indices: indices.len(),
-        spans: spans.len(),
-        account: account.len(),
-        log: log.len(),
-    };
-    match plan_scene(s, has) {
-        Plan::Refuse(f, object) => Answered::Refused(f, object),
-        Plan::Write(n) => Answered::Counts(write_objects(
-            s,
-            n,
-            min_area(),
-            vertices,
-            normals,
-            indices,
-            spans,
-            account,
-            log,
-        )),
-    }
+    build_scene(s, MIN_AREA, vertices, normals, indices, spans, account, log)
 }

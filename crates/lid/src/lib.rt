@@ -1,9 +1,6 @@
 // The lid of a closed outline, as `lid_normal`, `triangulate` and `bridge` of object_mesh.rs: its
 // definitions (specs/), what is known of them, and the types that the crates above share.
 
-// A ring of less area is skipped, a corner of less turn is straight, and a rise of less does not tell a side.
-pub const MIN_AREA: f32 = 1e-6;
-
 // A corner's number: the outer corners from 0, then the holes'.
 pub struct CornerNumber(pub u32);
 

@@ -17,17 +17,17 @@ use Rattle.answers.specs.Answers.{countsFrom, accepts}
 use Rattle.most.proofs.Exact.{exact-counts}
 use Rattle.measure.specs.Bounds.{boundOf, boundScene}
 
-module _ (s : List ℕ) (exact : Bool) where
-  pub bound-refused : (f : Refusal) (object : ℕ) → CheckedRefused f object ≡ checkedOf (scene s) → refusedWith f object ≡ boundScene exact minArea (scene s)
+module _ (limit : Float) (s : List ℕ) (exact : Bool) where
+  pub bound-refused : (f : Refusal) (object : ℕ) → CheckedRefused f object ≡ checkedOf (scene s) → refusedWith f object ≡ boundScene exact limit (scene s)
   unfolding boundScene
-  bound-refused f object h = sym (ap (boundScene exact minArea) (checked-refused (scene s) f object h))
+  bound-refused f object h = sym (ap (boundScene exact limit) (checked-refused (scene s) f object h))
 
-  pub bound-accepted : (n : ℕ) (c : Counted) → Accepted n ≡ checkedOf (scene s) → ((os : List Object) → scene s ≡ accepted os → countsFrom c ≡ boundOf exact minArea os)
-      → accepts c ≡ boundScene exact minArea (scene s)
+  pub bound-accepted : (n : ℕ) (c : Counted) → Accepted n ≡ checkedOf (scene s) → ((os : List Object) → scene s ≡ accepted os → countsFrom c ≡ boundOf exact limit os)
+      → accepts c ≡ boundScene exact limit (scene s)
   unfolding boundScene
   bound-accepted n c h k =
       let q = checked-accepted s n h in
-      (λ i. record { number = 0; object = 0; counts = k (objectsOf (scene s)) (q .is) i }) ∙ sym (ap (boundScene exact minArea) (q .is))
+      (λ i. record { number = 0; object = 0; counts = k (objectsOf (scene s)) (q .is) i }) ∙ sym (ap (boundScene exact limit) (q .is))
 
 scene-exact : (limit : Float) (x : Scene) → boundScene true limit x ≡ measureScene limit x
 unfolding boundScene boundOf measureScene done

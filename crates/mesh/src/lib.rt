@@ -5,13 +5,11 @@ ghost use Rattle.coords.specs.Buffers.{verticesIn};
 ghost use Rattle.validation.specs.Validate.{triangleAt, trianglesFrom, validateAt, validate};
 use faults::degenerate;
 use faults::first_not_finite;
+use float::MIN_AREA;
 use lists::Found;
 use rows::Refusal;
 use validation::Validation;
 use validation::Verdict;
-
-// Twice the area, in square metres, below which a triangle has none worth drawing or colliding with.
-const MIN_AREA: f32 = 0.000001;
 
 // What is wrong with triangle t, of the vertices numbered a, b and c, if anything is.
 fn triangle(limit: f32, vertices: &[f32], t: usize, a: u32, b: u32, c: u32) -> Verdict

@@ -3,7 +3,7 @@ ghost use mathlib.Core.Path.{_≡_};
 ghost use Rattle.flattening.specs.Plane.{riseStep};
 ghost use Rattle.flattening.specs.Steps.{areaNormalAt, lidNormalFrom};
 use coords::Point;
-use lid::MIN_AREA;
+use float::MIN_AREA;
 use object::Corner;
 use vectors::Vector;
 

@@ -7,7 +7,7 @@ ghost use Rattle.lists.specs.Loops.{list};
 ghost use Rattle.lid.specs.Rings.{flats, tooSmall};
 ghost use Rattle.lid.specs.Steps.{turned};
 use areas::area;
-use lid::MIN_AREA;
+use float::MIN_AREA;
 
 // Numbers the places of a ring from `from` up.
 fn fill(ring: &mut [u32], from: u32)

@@ -16,11 +16,11 @@ use Rattle.shapes.proofs.Stages.{stages-faces}
 use Rattle.scene_mesh.specs.Mesh.{keptBy}
 use Rattle.most.specs.Most.{ofShape, exactOf}
 
-pub drawn-exact : {limit area : Float} {sh : Shape} {vs ns vs′ ns′ : List Float} {is ls is′ ls′ : List ℕ} {d : Drawn}
-    → DrewObject limit sh 0 vs ns is ls d vs′ ns′ is′ ls′ → limit ≡ area → ofShape (lastOf (d .after) .vertices) (lastOf (d .after) .kept) (d .entries) ≡ exactOf area sh
+pub drawn-exact : {limit : Float} {sh : Shape} {vs ns vs′ ns′ : List Float} {is ls is′ ls′ : List ℕ} {d : Drawn}
+    → DrewObject limit sh 0 vs ns is ls d vs′ ns′ is′ ls′ → ofShape (lastOf (d .after) .vertices) (lastOf (d .after) .kept) (d .entries) ≡ exactOf limit sh
 unfolding exactOf counted keptBy
-drawn-exact {limit} {area} {sh} r e =
+drawn-exact {limit} {sh} r =
     let t = drew-tally limit (r .drew .drew) ∙ ap (λ (fs : List Face). counted limit 0 fs (tally 0 0 0)) (stages-faces sh) in
     let v = ap (λ (x : Tally). x .vertices) t ∙ zero-add _ in
     let k = ap (λ (x : Tally). x .kept) t ∙ zero-add _ in
-    (λ i. ofShape (v i) (k i) (r .entries i)) ∙ ap (λ (x : Float). exactOf x sh) e
+    λ i. ofShape (v i) (k i) (r .entries i)

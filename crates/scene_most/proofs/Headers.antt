@@ -5,9 +5,9 @@ use mathlib.Core.List.{List}
 use Prim.Native.Nat.{ℕ, _+_, _*_, _≤_, zero-le}
 use native.Mathlib.Omega.{arith}
 use lib.Dec.{eqb}
-use lib.Ieee.{lt}
+use lib.Ieee.{Float, lt}
 use Rattle.lists.proofs.Loops.{either}
-use Rattle.float.specs.Number.{zerof, minArea}
+use Rattle.float.specs.Number.{zerof}
 use Rattle.object.specs.declared.Extent.the-variants.{Box, Cylinder, Unsized}
 use Rattle.fields.specs.Fields.{countsAt, holesAt}
 use Rattle.scene.specs.declared.headers.Body.{Body}
@@ -60,11 +60,11 @@ few-body s i (Outline closed outer holes) =
     subst (λ (m : Most). Few m (5 + bodySize s i (Outline closed outer holes)) 1) (most-outline s i closed outer holes) (few-outline closed outer (total (countsAt s holes (i + 4))) holes)
 few-body s i (Sweep round n) = subst (λ (m : Most). Few m (5 + bodySize s i (Sweep round n)) 1) (most-sweep s i round n) (few-sweep round n)
 
-pub few-bound : (lids exact : Bool) (s : List ℕ) (i : ℕ) (body : Body) → Few (partOf lids exact minArea (shapeOf s i body)) (5 + bodySize s i body) 1
+pub few-bound : (limit : Float) (lids exact : Bool) (s : List ℕ) (i : ℕ) (body : Body) → Few (partOf lids exact limit (shapeOf s i body)) (5 + bodySize s i body) 1
 unfolding partOf
-few-bound lids exact s i body =
+few-bound limit lids exact s i body =
     let sh = shapeOf s i body in
     let f = few-body s i body in
     either (λ (m : Most). Few m (5 + bodySize s i body) 1) (inPart lids sh)
-    (either (λ (m : Most). Few m (5 + bodySize s i body) 1) exact (few-less (most-within minArea sh) f) f)
+    (either (λ (m : Most). Few m (5 + bodySize s i body) 1) exact (few-less (most-within limit sh) f) f)
     (record { vertices = zero-le; triangles = zero-le; spans = zero-le; entries = zero-le })

@@ -6,7 +6,7 @@ use Prim.Native.Nat.{ℕ, _+_, _≤_, _<_, zero-le}
 use native.Mathlib.Nat.{add-assoc}
 use native.Mathlib.Omega.{arith}
 use lib.ListN.{length, getD, drop, drop-of-length-le}
-use Rattle.float.specs.Number.{minArea}
+use lib.Ieee.{Float}
 use Rattle.object.specs.Object.{Object}
 use Rattle.scene.specs.declared.headers.Header.{Header}
 use Rattle.scene.specs.declared.scenes.Checked.the-variants.{Accepted}
@@ -30,16 +30,16 @@ together-more a b c = λ i. record {
 }
 
 -- k records lie before place `at`, and come to m in this part
-pub record Sums (lids exact : Bool) (s : List ℕ) (n : ℕ) (m : Most) (at k : ℕ) : Type 0 where
+pub record Sums (limit : Float) (lids exact : Bool) (s : List ℕ) (n : ℕ) (m : Most) (at k : ℕ) : Type 0 where
   pub known : AcceptedAs s n (objectsOf (scene s))
   pub walking : Walking s (trailer s n) n (objectsOf (scene s)) k at
   pub count : k ≤ n
   pub place : at ≤ trailer s n
   pub few : Few m at k
-  pub same : together m (partOfAll lids exact minArea (drop k (objectsOf (scene s)))) ≡ partOfAll lids exact minArea (objectsOf (scene s))
+  pub same : together m (partOfAll lids exact limit (drop k (objectsOf (scene s)))) ≡ partOfAll lids exact limit (objectsOf (scene s))
 
-pub sums-start : (lids exact : Bool) (s : List ℕ) (n : ℕ) → Accepted n ≡ checkedOf (scene s) → Sums lids exact s n nothing 0 0
-sums-start lids exact s n h =
+pub sums-start : (limit : Float) (lids exact : Bool) (s : List ℕ) (n : ℕ) → Accepted n ≡ checkedOf (scene s) → Sums limit lids exact s n nothing 0 0
+sums-start limit lids exact s n h =
     let q = checked-accepted s n h in
     record {
       known = q;
@@ -47,18 +47,18 @@ sums-start lids exact s n h =
       count = zero-le;
       place = zero-le;
       few = record { vertices = zero-le; triangles = zero-le; spans = zero-le; entries = zero-le };
-      same = none-together (partOfAll lids exact minArea (objectsOf (scene s)));
+      same = none-together (partOfAll lids exact limit (objectsOf (scene s)));
     }
 
-module _ {lids exact : Bool} {s : List ℕ} {n : ℕ} {m : Most} {at k : ℕ} (w : Sums lids exact s n m at k) where
+module _ {limit : Float} {lids exact : Bool} {s : List ℕ} {n : ℕ} {m : Most} {at k : ℕ} (w : Sums limit lids exact s n m at k) where
   abbrev os : List Object
   os = objectsOf (scene s)
 
   abbrev bound : Header → Most
-  bound h = partOf lids exact minArea (shapeOf s (at + 5) (h .body))
+  bound h = partOf lids exact limit (shapeOf s (at + 5) (h .body))
 
   abbrev sum : List Object → Most
-  sum = partOfAll lids exact minArea
+  sum = partOfAll lids exact limit
 
   module _ (l : k < n) where
     can-draw : CanDraw s (at + 5) (headerAt s at .body) 0
@@ -67,7 +67,7 @@ module _ {lids exact : Bool} {s : List ℕ} {n : ℕ} {m : Most} {at k : ℕ} (w
 
     few-next : Few (bound (headerAt s at)) (headerAt s at .size) 1
     unfolding headerAt
-    few-next = few-bound lids exact s (at + 5) (bodyAt s (at + 5) (getD s at 0))
+    few-next = few-bound limit lids exact s (at + 5) (bodyAt s (at + 5) (getD s at 0))
 
     module _ {h : Header} (e : h ≡ headerAt s at) where
       pub can-read : CanDraw s (at + 5) (h .body) 0
@@ -87,7 +87,7 @@ module _ {lids exact : Bool} {s : List ℕ} {n : ℕ} {m : Most} {at k : ℕ} (w
         pub can-sum : Few (together m x) 33554432 131072
         can-sum = let i = place-fits in let few = w .known .few in few-among few-more (omega arith) (omega arith)
 
-        pub sums-next : {m′ : Most} → m′ ≡ together m x → Sums lids exact s n m′ (at + h .size) (k + 1)
+        pub sums-next : {m′ : Most} → m′ ≡ together m x → Sums limit lids exact s n m′ (at + h .size) (k + 1)
         unfolding partOfAll
         sums-next d =
             let y = bound (headerAt s at) in

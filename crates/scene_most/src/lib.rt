@@ -4,7 +4,6 @@
 ghost use mathlib.Core.Path.{_≡_};
 ghost use mathlib.Core.List.{List};
 ghost use Prim.Native.Nat.{ℕ, _≤_};
-ghost use Rattle.float.specs.Number.{minArea};
 ghost use Rattle.object.specs.Object.{Object};
 ghost use Rattle.scene.specs.declared.scenes.Checked.the-variants.{Accepted};
 ghost use Rattle.scene.specs.Scene.{scene, accepted};
@@ -12,7 +11,6 @@ ghost use Rattle.scene.specs.Answers.{checkedOf};
 ghost use Rattle.scene.specs.Headers.{shapeOf, Limits};
 ghost use Rattle.shapes.specs.Drawn.{CanDraw};
 ghost use Rattle.most.specs.Most.{mostOf, exactOf, hasLid, inPart, partOf, partOfAll, Few};
-use answers::min_area;
 use headers::header_at;
 use hole_counts::sum_counts;
 use most::Most;
@@ -43,25 +41,15 @@ fn most_at(s: &[u8], i: usize, body: Body) -> Most
 }
 
 // What it comes to: drawn into buffers without any room.
-fn exact_at(s: &[u8], i: usize, body: Body) -> Most
+fn exact_at(s: &[u8], i: usize, body: Body, limit: f32) -> Most
     requires { ⌜ CanDraw (now s) i body 0 ⌝ }
-    ensures { λ r. ⌜ r ≡ exactOf minArea (shapeOf (now (s .entry)) i body) ⌝ }
+    ensures { λ r. ⌜ r ≡ exactOf limit (shapeOf (now (s .entry)) i body) ⌝ }
 {
     let mut vs = [0.0f32; 0];
     let mut ns = [0.0f32; 0];
     let mut is = [0u32; 0];
     let mut log = [0u32; 0];
-    let d = draw::draw(
-        s,
-        i,
-        body,
-        min_area(),
-        0,
-        &mut vs,
-        &mut ns,
-        &mut is,
-        &mut log,
-    );
+    let d = draw::draw(s, i, body, limit, 0, &mut vs, &mut ns, &mut is, &mut log);
     let after = d.after;
     let t = after[5];
     of_shape(t.vertices, t.kept, d.entries)
@@ -87,9 +75,9 @@ fn in_part(body: Body, lids: bool) -> bool
 }
 
 // Nothing for an object of the other part.
-fn bound_at(s: &[u8], i: usize, body: Body, lids: bool, exact: bool) -> Most
+fn bound_at(s: &[u8], i: usize, body: Body, limit: f32, lids: bool, exact: bool) -> Most
     requires { ⌜ CanDraw (now s) i body 0 ⌝ }
-    ensures { λ r. ⌜ r ≡ partOf lids exact minArea (shapeOf (now (s .entry)) i body) ⌝ }
+    ensures { λ r. ⌜ r ≡ partOf lids exact limit (shapeOf (now (s .entry)) i body) ⌝ }
 {
     if !in_part(body, lids) {
         return Most {
@@ -100,15 +88,15 @@ fn bound_at(s: &[u8], i: usize, body: Body, lids: bool, exact: bool) -> Most
         };
     }
     if exact {
-        return exact_at(s, i, body);
+        return exact_at(s, i, body, limit);
     }
     most_at(s, i, body)
 }
 
 // Those of the n objects that have lids, or the others: measured, or the most.
-pub fn part_of_all(s: &[u8], n: u32, lids: bool, exact: bool) -> Most
+pub fn part_of_all(s: &[u8], n: u32, limit: f32, lids: bool, exact: bool) -> Most
     requires { ⌜ Accepted n ≡ checkedOf (scene (now s)) ⌝ }
-    ensures { λ r. ⌜ Few r 16777216 65536 × ((os : List Object) → scene (now (s .entry)) ≡ accepted os → r ≡ partOfAll lids exact minArea os) ⌝ }
+    ensures { λ r. ⌜ Few r 16777216 65536 × ((os : List Object) → scene (now (s .entry)) ≡ accepted os → r ≡ partOfAll lids exact limit os) ⌝ }
 {
     let mut most = Most {
         vertices: 0,
@@ -121,7 +109,7 @@ pub fn part_of_all(s: &[u8], n: u32, lids: bool, exact: bool) -> Most
     while k < n {
         let h = header_at(s, at);
         let body = h.body;
-        most = add(most, bound_at(s, at + 5, body, lids, exact));
+        most = add(most, bound_at(s, at + 5, body, limit, lids, exact));
         at = at + h.size;
         k = k + 1;
     }

@@ -11,19 +11,19 @@ plan-parts-requires : tie.Need-plan-parts-requires
 plan-parts-requires c κs = (c .part-of-all2 .ensures .0, c .before .part-of-all .ensures .0, checked-accepted _ _ (c .before .before .before .pre) .few)
 
 returns : tie.Need-returns
-returns c = plan-bounded _ _ _ (c .before .before .before .before .before .before .pre) false false (c .before .before .before .part-of-all2 .ensures .1) (c .before .before .before .before .part-of-all .ensures .1) (c .enum-told .given .1) (c .before .before .plan-parts .ensures)
+returns c = plan-bounded _ _ _ _ (c .before .before .before .before .before .before .pre) false false (c .before .before .before .part-of-all2 .ensures .1) (c .before .before .before .before .part-of-all .ensures .1) (c .enum-told .given .1) (c .before .before .plan-parts .ensures)
 
 plan-parts-requires-2 : tie.Need-plan-parts-requires-2
 plan-parts-requires-2 c κs = (c .part-of-all3 .ensures .0, c .before .before .before .before .before .part-of-all .ensures .0, checked-accepted _ _ (c .before .before .before .before .before .before .before .pre) .few)
 
 returns-2 : tie.Need-returns-2
-returns-2 c = plan-bounded _ _ _ (c .before .before .before .before .before .before .before .before .before .before .pre) true false (c .before .before .before .part-of-all3 .ensures .1) (c .before .before .before .before .before .before .before .before .part-of-all .ensures .1) (c .enum-told3 .given .1) (c .before .before .plan-parts2 .ensures)
+returns-2 c = plan-bounded _ _ _ _ (c .before .before .before .before .before .before .before .before .before .before .pre) true false (c .before .before .before .part-of-all3 .ensures .1) (c .before .before .before .before .before .before .before .before .part-of-all .ensures .1) (c .enum-told3 .given .1) (c .before .before .plan-parts2 .ensures)
 
 plan-parts-requires-3 : tie.Need-plan-parts-requires-3
 plan-parts-requires-3 c κs = (c .before .before .before .before .part-of-all3 .ensures .0, c .part-of-all4 .ensures .0, checked-accepted _ _ (c .before .before .before .before .before .before .before .before .before .before .before .pre) .few)
 
 returns-3 : tie.Need-returns-3
-returns-3 c = let c₁ = c .before .before .before .before .before .before .before .before .before .before .before .before in plan-measured _ (lengthsFrom (c₁ .args .has)) _ (c₁ .pre) (c .before .before .before .before .before .part-of-all3 .ensures .1) (c .before .part-of-all4 .ensures .1) (c .plan-parts3 .result) (c .plan-parts3 .ensures)
+returns-3 c = let c₁ = c .before .before .before .before .before .before .before .before .before .before .before .before in plan-measured _ _ (lengthsFrom (c₁ .args .has)) _ (c₁ .pre) (c .before .before .before .before .before .part-of-all3 .ensures .1) (c .before .part-of-all4 .ensures .1) (c .plan-parts3 .result) (c .plan-parts3 .ensures)
 
 pub plan-objects-spec : {M : Type 1} → statement M
 plan-objects-spec =

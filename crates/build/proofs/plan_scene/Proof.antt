@@ -6,7 +6,7 @@ use Rattle.build.proofs.plan_scene.Statement.{statement}
 use Rattle.build.proofs.plan_scene.Tie as tie
 
 returns : tie.Need-returns
-returns c = plan-refused _ _ _ _ (sym (c .before .f .given .1) ∙ c .before .before .before .check-scene .ensures)
+returns c = plan-refused _ _ _ _ _ (sym (c .before .f .given .1) ∙ c .before .before .before .check-scene .ensures)
 
 pub plan-scene-spec : {M : Type 1} → statement M
 plan-scene-spec =

@@ -20,14 +20,14 @@ bound-counts-requires c κs =
     (c .before .part-of-all .ensures .0, c .part-of-all2 .ensures .0, checked-accepted _ _ (sym (c₁ .n .given .1) ∙ c₁ .before .before .check-scene .ensures) .few)
 
 returns : tie.Need-returns
-returns c = bound-refused _ _ _ _ (sym (c .before .f .given .1) ∙ c .before .before .before .check-scene .ensures)
+returns c = bound-refused _ _ _ _ _ (sym (c .before .f .given .1) ∙ c .before .before .before .check-scene .ensures)
 
 returns-2 : tie.Need-returns-2
 unfolding boundOf
 returns-2 c =
     let c₁ = c .before .before .before .before in
     let h = sym (c₁ .n .given .1) ∙ c₁ .before .before .check-scene .ensures in
-    bound-accepted _ _ _ _ h (λ os e. c .bound-counts .ensures ∙ parts-counts _ _ h os e _ _ (c .before .before .part-of-all .ensures .1) (c .before .part-of-all2 .ensures .1))
+    bound-accepted _ _ _ _ _ h (λ os e. c .bound-counts .ensures ∙ parts-counts _ _ _ h os e _ _ (c .before .before .part-of-all .ensures .1) (c .before .part-of-all2 .ensures .1))
 
 pub count-scene-spec : {M : Type 1} → statement M
 count-scene-spec =

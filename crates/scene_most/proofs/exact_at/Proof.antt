@@ -6,11 +6,9 @@ use Rattle.scene_most.proofs.exact_at.Statement.{statement}
 use Rattle.scene_most.proofs.exact_at.Tie as tie
 
 returns : tie.Need-returns
-returns c =
-    let c₁ = c .before .before .before .before .before .before .before in
-    c .of-shape .ensures ∙ drawn-exact (c₁ .draw .ensures) (c₁ .before .before .before .before .before .min-area .ensures)
+returns c = c .of-shape .ensures ∙ drawn-exact (c .before .before .before .before .before .before .before .draw .ensures)
 
 pub exact-at-spec : {M : Type 1} → statement M
 exact-at-spec =
     tie.close
-    (tie.spec (λ c κs. tt) (λ c. refl) (λ c. refl) (λ c. refl) (λ c. refl) (λ c κs. c .before .before .before .before .before .before .pre) (λ c. omega arith) (λ c κs. tt) returns)
+    (tie.spec (λ c. refl) (λ c. refl) (λ c. refl) (λ c. refl) (λ c κs. c .before .before .before .before .before .pre) (λ c. omega arith) (λ c κs. tt) returns)

@@ -7,13 +7,13 @@ use Rattle.scene_most.proofs.part_of_all.Statement.{statement}
 use Rattle.scene_most.proofs.part_of_all.Tie as tie
 
 abbrev Inv-loop : tie.InvT-loop
-Inv-loop s n lids exact most₀ at₀ k₀ most at k = Sums lids exact s n most at k
+Inv-loop s n limit lids exact most₀ at₀ k₀ most at k = Sums limit lids exact s n most at k
 
 abbrev μ-loop : tie.MeasureT-loop
-μ-loop s n lids exact most₀ at₀ k₀ most at k = n - k
+μ-loop s n limit lids exact most₀ at₀ k₀ most at k = n - k
 
 loop-holds : tie.Need-loop-holds Inv-loop μ-loop
-loop-holds c = sums-start _ _ _ _ (c .before .pre)
+loop-holds c = sums-start _ _ _ _ _ (c .before .pre)
 
 add-bound-at : tie.Need-add-bound-at Inv-loop μ-loop
 add-bound-at c = let q = can-read (c .before .before .loop .inv) (c .before .loop-test .taken) (c .header-at .ensures) in omega (arith, q .inside, q .short)
