@@ -1,9 +1,9 @@
 -- Notes of how far the tests of a ring's places have come: 2 j where the tests below test j pass, 2 j + 1 where test j fails besides. Test 0 of a
 -- place is its turn, test k + 1 the corner at place k. Definitions only.
 use mathlib.Core.Bool.{cond}
-use mathlib.Core.List.{List, map}
+use mathlib.Core.List.{List, _++_, map}
 use Prim.Native.Nat.{ℕ, _+_, _-_, _*_}
-use lib.ListN.{length, set}
+use lib.ListN.{length, set, take, drop}
 use lib.Dec.{ltb}
 use Rattle.lists.specs.Loops.{next, previous, removeAt}
 
@@ -23,6 +23,10 @@ movedBy low q = down low (down low q)
 -- the same where the corner at place i is removed
 abbrev pub moved : ℕ → ℕ → ℕ
 moved i q = movedBy (2 * i + 2) q
+
+-- those behind place i moved, each to the place before its own
+abbrev pub movedBehind : ℕ → ℕ → List ℕ → List ℕ
+movedBehind low i why = take i why ++ map (movedBy low) (drop (i + 1) why)
 
 -- that bound, as far as notes go
 unfoldable pub capped : ℕ → ℕ
