@@ -1,13 +1,13 @@
 // Ear clipping of one ring, as the loop of `triangulate`.
 ghost use mathlib.Core.Path.{_≡_};
-ghost use Prim.Native.Nat.{_+_, _-_, _<_, _≤_, _^_};
-ghost use lib.ListN.{length, take};
+ghost use Prim.Native.Nat.{_+_, _<_, _≤_, _^_};
+ghost use lib.ListN.{length};
 ghost use Rattle.lists.specs.Loops.{first};
 ghost use Rattle.lid.specs.Rings.{flats, flatsIn, turn};
 ghost use Rattle.lid.specs.Clipping.{isStraight, clipStep};
 ghost use Rattle.lid.specs.Steps.{CornerCut, RingClipped};
 ghost use Rattle.ears.specs.Ears.{Known};
-ghost use Rattle.notes.specs.Notes.{without};
+ghost use Rattle.notes.specs.Notes.{PlaceForgotten};
 ghost use Rattle.clipping.specs.StepNotes.{stepNotes};
 use ears::find_ear;
 use entries::put_entry;
@@ -86,7 +86,7 @@ fn cut(
     requires { ⌜ length (now why) ≡ length (now ring) ⌝ }
     requires { ⌜ count + 1 < 2 ^ 32 ⌝ }
     ensures { λ r. ⌜ CornerCut mark (at .0) ring log n triangles count r ⌝ }
-    ensures { λ _. ⌜ take (length (now (why .entry)) - 1) (now (why .exit)) ≡ without (at .0) (now (why .entry)) ⌝ }
+    ensures { λ _. ⌜ PlaceForgotten (at .0) why ⌝ }
 {
     forget(why, at);
     let t = corners_at(ring, at);

@@ -14,6 +14,6 @@ ringEntries k = k .log ++ map (λ a. entry 3 a 0 0) (k .ring)
 abbrev pub ringTriangles : List Flat → Logged → List Triangle
 ringTriangles fs k = earsOf (k .log) ++ lastTriangle fs (k .ring)
 
--- the lid of a ring without holes: it is clipped
+-- both, for a ring that no hole is to be joined to
 abbrev pub ringLid : List Flat → List ℕ → Lid
 ringLid fs ring = record { log = ringEntries (clipRing fs ring); triangles = ringTriangles fs (clipRing fs ring) }

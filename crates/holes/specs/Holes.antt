@@ -20,10 +20,10 @@ holeCorners outer counts g = list (λ i. i) (getD counts g 0) (startOf outer cou
 abbrev pub holeRing : List Flat → ℕ → List ℕ → ℕ → List ℕ
 holeRing fs outer counts g = turnHole fs (holeCorners outer counts g)
 
+-- the hole, and those of several numbers
 abbrev pub holeAt : List Flat → ℕ → List ℕ → ℕ → Hole
 holeAt fs outer counts g = record { number = g; ring = holeRing fs outer counts g }
 
--- the holes of some numbers
 abbrev pub holesNumbered : List Flat → ℕ → List ℕ → List ℕ → List Hole
 holesNumbered fs outer counts gs = map (holeAt fs outer counts) gs
 
@@ -38,6 +38,10 @@ smallOf fs outer counts = list (λ g. tooSmall fs (holeCorners outer counts g)) 
 unfoldable pub skips : ℕ → List Bool → List Entry
 skips g [] = []
 skips g (small ∷ more) = let later = skips (suc g) more in cond small (entry 6 g 0 0 ∷ later) later
+
+-- the entries of all that are
+abbrev pub allSkips : List Flat → ℕ → List ℕ → List Entry
+allSkips fs outer counts = skips 0 (smallOf fs outer counts)
 
 -- hole g can be joined: it has corners, and they have room in a buffer
 abbrev pub Joinable : List ℕ → ℕ → ℕ → Type 0

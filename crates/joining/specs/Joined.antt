@@ -29,6 +29,7 @@ pub record JoinsAll (j : Logged) (ring′ log log′ : List ℕ) (n r : ℕ) : T
   pub places : r ≡ length (j .ring)
   pub written : log′ ≡ logWith log n (j .log)
 
+-- the same of the lent slices
 abbrev pub HolesJoined : List Flat → List Hole → Slice ℕ → ℕ → Slice ℕ → ℕ → ℕ → Type 0
 HolesJoined fs holes ring m log n r =
     JoinsAll (joinAll fs holes (take m (now (ring .entry)))) (now (ring .exit)) (now (log .entry)) (now (log .exit)) n r

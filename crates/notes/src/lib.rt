@@ -5,7 +5,7 @@ ghost use mathlib.Core.Path.{_≡_};
 ghost use mathlib.Core.List.{map};
 ghost use Prim.Native.Nat.{_+_, _-_, _<_};
 ghost use lib.ListN.{length, take, replicate};
-ghost use Rattle.notes.specs.Notes.{failedAt, capped, down, movedBy, movedBehind, without};
+ghost use Rattle.notes.specs.Notes.{failedAt, capped, down, movedBy, movedBehind, PlaceForgotten};
 use lid::RingPlace;
 use places::place_after;
 use places::place_before;
@@ -85,7 +85,7 @@ fn shift_behind(why: &mut [u32], at: RingPlace, low: u32)
 // The notes where the corner at a place is removed: those of its neighbours, whose triangles change, start anew, and the others move.
 pub fn forget(why: &mut [u32], at: RingPlace)
     requires { ⌜ at .0 < length (now why) ⌝ }
-    ensures { λ _. ⌜ take (length (now (why .entry)) - 1) (now (why .exit)) ≡ without (at .0) (now (why .entry)) ⌝ }
+    ensures { λ _. ⌜ PlaceForgotten (at .0) why ⌝ }
 {
     let n = why.len();
     let i = at.0;

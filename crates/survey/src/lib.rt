@@ -6,7 +6,7 @@ ghost use lib.ListN.{length, getD, take};
 ghost use Rattle.lists.specs.Loops.{sumOf};
 ghost use Rattle.lid.specs.Rings.{flatsIn, tooSmall, right};
 ghost use Rattle.lid.specs.Written.{logWith, cornerTotal};
-ghost use Rattle.holes.specs.Holes.{holeCorners, holeRing, rightsOf, smallOf, skips};
+ghost use Rattle.holes.specs.Holes.{holeCorners, holeRing, rightsOf, smallOf, skips, allSkips};
 use areas::right;
 use entries::put_entry;
 use holes::write_hole;
@@ -62,8 +62,8 @@ pub fn survey(
     requires { ⌜ (length (now counts) ≤ length (now rights)) × (length (now counts) ≤ length (now small)) ⌝ }
     ensures { λ _. ⌜ take (length (now (counts .entry))) (now (rights .exit)) ≡ rightsOf (flatsIn us vs) outer (now (counts .entry)) ⌝ }
     ensures { λ _. ⌜ take (length (now (counts .entry))) (now (small .exit)) ≡ smallOf (flatsIn us vs) outer (now (counts .entry)) ⌝ }
-    ensures { λ r. ⌜ r ≡ length (skips 0 (smallOf (flatsIn us vs) outer (now (counts .entry)))) ⌝ }
-    ensures { λ _. ⌜ now (log .exit) ≡ logWith (now (log .entry)) 0 (skips 0 (smallOf (flatsIn us vs) outer (now (counts .entry)))) ⌝ }
+    ensures { λ r. ⌜ r ≡ length (allSkips (flatsIn us vs) outer (now (counts .entry))) ⌝ }
+    ensures { λ _. ⌜ now (log .exit) ≡ logWith (now (log .entry)) 0 (allSkips (flatsIn us vs) outer (now (counts .entry))) ⌝ }
 {
     let mut n = 0;
     let mut g = 0;
