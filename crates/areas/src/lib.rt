@@ -2,7 +2,7 @@
 ghost use mathlib.Core.Path.{_≡_};
 ghost use Prim.Native.Nat.{_+_, _<_};
 ghost use lib.ListN.{length};
-ghost use Rattle.lid.specs.Rings.{flats, areaStep, area, rightStep, right};
+ghost use Rattle.lid.specs.Rings.{flatsIn, areaStep, area, rightStep, right};
 use flats::flat_at;
 use flats::flat_of;
 use flats::turn;
@@ -13,7 +13,7 @@ use places::place_after;
 // The area so far with the turn of one more triangle of the fan.
 fn area_step(us: &[f32], vs: &[f32], ring: &[u32], at: RingPlace, sum: f32) -> f32
     requires { ⌜ at .0 < length (now ring) ⌝ }
-    ensures { λ r. ⌜ r ≡ areaStep (flats (now (us .entry)) (now (vs .entry))) (now (ring .entry)) (at .0) sum ⌝ }
+    ensures { λ r. ⌜ r ≡ areaStep (flatsIn us vs) (now (ring .entry)) (at .0) sum ⌝ }
 {
     let next = place_after(ring.len(), at);
     let a = flat_of(us, vs, ring, RingPlace(0));
@@ -24,7 +24,7 @@ fn area_step(us: &[f32], vs: &[f32], ring: &[u32], at: RingPlace, sum: f32) -> f
 
 // Twice a ring's area, rounded as the Rust rounds it.
 pub fn area(us: &[f32], vs: &[f32], ring: &[u32]) -> f32
-    ensures { λ r. ⌜ r ≡ area (flats (now (us .entry)) (now (vs .entry))) (now (ring .entry)) ⌝ }
+    ensures { λ r. ⌜ r ≡ area (flatsIn us vs) (now (ring .entry)) ⌝ }
 {
     let mut sum = 0.0;
     let mut k = 0;
@@ -36,7 +36,7 @@ pub fn area(us: &[f32], vs: &[f32], ring: &[u32]) -> f32
 }
 
 fn right_step(us: &[f32], vs: &[f32], best: f32, c: CornerNumber) -> f32
-    ensures { λ r. ⌜ r ≡ rightStep (flats (now (us .entry)) (now (vs .entry))) best (c .0) ⌝ }
+    ensures { λ r. ⌜ r ≡ rightStep (flatsIn us vs) best (c .0) ⌝ }
 {
     let f = flat_at(us, vs, c);
     signs::max(best, f.u)
@@ -44,7 +44,7 @@ fn right_step(us: &[f32], vs: &[f32], best: f32, c: CornerNumber) -> f32
 
 // A ring's greatest first coordinate.
 pub fn right(us: &[f32], vs: &[f32], ring: &[u32]) -> f32
-    ensures { λ r. ⌜ r ≡ right (flats (now (us .entry)) (now (vs .entry))) (now (ring .entry)) ⌝ }
+    ensures { λ r. ⌜ r ≡ right (flatsIn us vs) (now (ring .entry)) ⌝ }
 {
     let mut best = f32::from_bits(0xff7f_ffff);
     let mut k = 0;

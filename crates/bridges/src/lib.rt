@@ -3,7 +3,7 @@ ghost use mathlib.Core.Path.{_≡_};
 ghost use Prim.Native.Nat.{_+_, _<_};
 ghost use lib.ListN.{length};
 ghost use Rattle.lists.specs.Loops.{first};
-ghost use Rattle.lid.specs.Rings.{flats};
+ghost use Rattle.lid.specs.Rings.{flatsIn};
 ghost use Rattle.lid.specs.Bridges.{inside, slopeOf, seenAt, visible, sitsIn, isCopy, copyOf, bridge};
 ghost use Rattle.lid.specs.Steps.{rayTo};
 use flats::flat_at;
@@ -40,7 +40,7 @@ fn slope(m: Flat, r: Flat) -> f32
 // The shallowest slope so far, with the corner at one more place.
 fn seen_at(us: &[f32], vs: &[f32], ring: &[u32], ray: Ray, at: RingPlace, best: Seen) -> Seen
     requires { ⌜ at .0 < length (now ring) ⌝ }
-    ensures { λ r. ⌜ r ≡ seenAt (flats (now (us .entry)) (now (vs .entry))) (now (ring .entry)) (ray .m) (ray .i) (ray .end .0) (ray .s) (at .0) best ⌝ }
+    ensures { λ r. ⌜ r ≡ seenAt (flatsIn us vs) (now (ring .entry)) (ray .m) (ray .i) (ray .end .0) (ray .s) (at .0) best ⌝ }
 {
     let k = at.0;
     let c = ring[k];
@@ -64,7 +64,7 @@ fn seen_at(us: &[f32], vs: &[f32], ring: &[u32], ray: Ray, at: RingPlace, best: 
 
 // The ray from m that meets at i an edge whose rightmost end stands at `target`.
 fn ray_to(us: &[f32], vs: &[f32], ring: &[u32], m: Flat, i: Flat, target: RingPlace) -> Ray
-    ensures { λ r. ⌜ r ≡ rayTo (flats (now (us .entry)) (now (vs .entry))) (now (ring .entry)) m i (target .0) ⌝ }
+    ensures { λ r. ⌜ r ≡ rayTo (flatsIn us vs) (now (ring .entry)) m i (target .0) ⌝ }
 {
     let end = number_at(ring, target);
     let p = flat_at(us, vs, end);
@@ -74,7 +74,7 @@ fn ray_to(us: &[f32], vs: &[f32], ring: &[u32], m: Flat, i: Flat, target: RingPl
 
 // The place that m sees, where the ray meets at i an edge whose rightmost end stands at `target`.
 fn visible(us: &[f32], vs: &[f32], ring: &[u32], m: Flat, i: Flat, target: RingPlace) -> RingPlace
-    ensures { λ r. ⌜ r .0 ≡ visible (flats (now (us .entry)) (now (vs .entry))) (now (ring .entry)) m i (target .0) ⌝ }
+    ensures { λ r. ⌜ r .0 ≡ visible (flatsIn us vs) (now (ring .entry)) m i (target .0) ⌝ }
 {
     let ray = ray_to(us, vs, ring, m, i, target);
     let mut best = Seen {
@@ -105,7 +105,7 @@ fn sits_in(m: Flat, a: Flat, v: Flat, b: Flat) -> bool
 // Whether a place holds corner c and m sits in it there.
 fn is_copy(us: &[f32], vs: &[f32], ring: &[u32], m: Flat, c: CornerNumber, at: RingPlace) -> bool
     requires { ⌜ at .0 < length (now ring) ⌝ }
-    ensures { λ r. ⌜ r ≡ isCopy (flats (now (us .entry)) (now (vs .entry))) (now (ring .entry)) m (c .0) (at .0) ⌝ }
+    ensures { λ r. ⌜ r ≡ isCopy (flatsIn us vs) (now (ring .entry)) m (c .0) (at .0) ⌝ }
 {
     let t = corners_at(ring, at);
     if t.b.0 != c.0 {
@@ -119,7 +119,7 @@ fn is_copy(us: &[f32], vs: &[f32], ring: &[u32], m: Flat, c: CornerNumber, at: R
 
 // The first such place.
 fn find_copy(us: &[f32], vs: &[f32], ring: &[u32], m: Flat, c: CornerNumber) -> Found
-    ensures { λ r. ⌜ r ≡ first (isCopy (flats (now (us .entry)) (now (vs .entry))) (now (ring .entry)) m (c .0)) (length (now (ring .entry))) 0 ⌝ }
+    ensures { λ r. ⌜ r ≡ first (isCopy (flatsIn us vs) (now (ring .entry)) m (c .0)) (length (now (ring .entry))) 0 ⌝ }
 {
     let mut k = 0;
     while k < ring.len() {
@@ -133,7 +133,7 @@ fn find_copy(us: &[f32], vs: &[f32], ring: &[u32], m: Flat, c: CornerNumber) -> 
 
 // Of the places that hold the corner at `target`, the first that m sits in, or `target` where there is none.
 fn copy_of(us: &[f32], vs: &[f32], ring: &[u32], m: Flat, target: RingPlace) -> RingPlace
-    ensures { λ r. ⌜ r .0 ≡ copyOf (flats (now (us .entry)) (now (vs .entry))) (now (ring .entry)) m (target .0) ⌝ }
+    ensures { λ r. ⌜ r .0 ≡ copyOf (flatsIn us vs) (now (ring .entry)) m (target .0) ⌝ }
 {
     let c = number_at(ring, target);
     match find_copy(us, vs, ring, m, c) {
@@ -145,7 +145,7 @@ fn copy_of(us: &[f32], vs: &[f32], ring: &[u32], m: Flat, target: RingPlace) -> 
 // Where a hole is joined to the ring.
 pub fn bridge(us: &[f32], vs: &[f32], ring: &[u32], hole: &[u32]) -> Bridged
     requires { ⌜ 0 < length (now hole) ⌝ }
-    ensures { λ r. ⌜ r ≡ bridge (flats (now (us .entry)) (now (vs .entry))) (now (ring .entry)) (now (hole .entry)) ⌝ }
+    ensures { λ r. ⌜ r ≡ bridge (flatsIn us vs) (now (ring .entry)) (now (hole .entry)) ⌝ }
 {
     let j = rightmost(us, vs, hole);
     let m = flat_of(us, vs, hole, j);

@@ -1,13 +1,13 @@
 // Ear clipping of one ring, as the loop of `triangulate`.
 ghost use mathlib.Core.Path.{_≡_};
-ghost use Prim.Native.Nat.{_+_, _-_, _<_, _≤_, _^_};
-ghost use lib.ListN.{length, take};
+ghost use Prim.Native.Nat.{_+_, _<_, _≤_, _^_};
+ghost use lib.ListN.{length};
 ghost use Rattle.lists.specs.Loops.{first};
-ghost use Rattle.lid.specs.Rings.{flats, turn};
-ghost use Rattle.lid.specs.Clipping.{isStraight, clipStep, clip};
-ghost use Rattle.lid.specs.Steps.{Cuts, Clips};
+ghost use Rattle.lid.specs.Rings.{flats, flatsIn, turn};
+ghost use Rattle.lid.specs.Clipping.{isStraight, clipStep};
+ghost use Rattle.lid.specs.Steps.{CornerCut, RingClipped};
 ghost use Rattle.ears.specs.Ears.{Known};
-ghost use Rattle.notes.specs.Notes.{without};
+ghost use Rattle.notes.specs.Notes.{PlaceForgotten};
 ghost use Rattle.clipping.specs.StepNotes.{stepNotes};
 use ears::find_ear;
 use entries::put_entry;
@@ -27,7 +27,7 @@ use ring_corners::corners_at;
 // Whether the corner at a place lies on a straight run.
 fn is_straight(us: &[f32], vs: &[f32], ring: &[u32], at: RingPlace) -> bool
     requires { ⌜ at .0 < length (now ring) ⌝ }
-    ensures { λ r. ⌜ r ≡ isStraight (flats (now (us .entry)) (now (vs .entry))) (now (ring .entry)) (at .0) ⌝ }
+    ensures { λ r. ⌜ r ≡ isStraight (flatsIn us vs) (now (ring .entry)) (at .0) ⌝ }
 {
     let t = corners_at(ring, at);
     let a = flat_at(us, vs, t.a);
@@ -38,7 +38,7 @@ fn is_straight(us: &[f32], vs: &[f32], ring: &[u32], at: RingPlace) -> bool
 
 // The first place on a straight run.
 fn find_straight(us: &[f32], vs: &[f32], ring: &[u32]) -> Found
-    ensures { λ r. ⌜ r ≡ first (isStraight (flats (now (us .entry)) (now (vs .entry))) (now (ring .entry))) (length (now (ring .entry))) 0 ⌝ }
+    ensures { λ r. ⌜ r ≡ first (isStraight (flatsIn us vs) (now (ring .entry))) (length (now (ring .entry))) 0 ⌝ }
 {
     let mut i = 0;
     while i < ring.len() {
@@ -54,9 +54,9 @@ fn find_straight(us: &[f32], vs: &[f32], ring: &[u32]) -> Found
 fn clip_step(us: &[f32], vs: &[f32], ring: &[u32], why: &mut [u32]) -> Step
     requires { ⌜ length (now why) ≡ length (now ring) ⌝ }
     requires { ⌜ Known (flats (now us) (now vs)) (now ring) (now why) ⌝ }
-    ensures { λ r. ⌜ r ≡ clipStep (flats (now (us .entry)) (now (vs .entry))) (now (ring .entry)) ⌝ }
-    ensures { λ _. ⌜ Known (flats (now (us .entry)) (now (vs .entry))) (now (ring .entry)) (now (why .exit)) ⌝ }
-    ensures { λ _. ⌜ now (why .exit) ≡ stepNotes (flats (now (us .entry)) (now (vs .entry))) (now (ring .entry)) (now (why .entry)) ⌝ }
+    ensures { λ r. ⌜ r ≡ clipStep (flatsIn us vs) (now (ring .entry)) ⌝ }
+    ensures { λ _. ⌜ Known (flatsIn us vs) (now (ring .entry)) (now (why .exit)) ⌝ }
+    ensures { λ _. ⌜ now (why .exit) ≡ stepNotes (flatsIn us vs) (now (ring .entry)) (now (why .entry)) ⌝ }
 {
     if ring.len() <= 3 {
         return Step::Stop;
@@ -85,8 +85,8 @@ fn cut(
     requires { ⌜ at .0 < length (now ring) ⌝ }
     requires { ⌜ length (now why) ≡ length (now ring) ⌝ }
     requires { ⌜ count + 1 < 2 ^ 32 ⌝ }
-    ensures { λ r. ⌜ Cuts mark (now (ring .entry)) (at .0) (now (ring .exit)) (now (log .entry)) (now (log .exit)) n (now (triangles .entry)) (now (triangles .exit)) count r ⌝ }
-    ensures { λ _. ⌜ take (length (now (why .entry)) - 1) (now (why .exit)) ≡ without (at .0) (now (why .entry)) ⌝ }
+    ensures { λ r. ⌜ CornerCut mark (at .0) ring log n triangles count r ⌝ }
+    ensures { λ _. ⌜ PlaceForgotten (at .0) why ⌝ }
 {
     forget(why, at);
     let t = corners_at(ring, at);
@@ -112,7 +112,7 @@ pub fn clip(
 ) -> Clipped
     requires { ⌜ n + length (now ring) < 2 ^ 32 ⌝ }
     requires { ⌜ length (now ring) ≤ length (now why) ⌝ }
-    ensures { λ r. ⌜ Clips (clip (flats (now (us .entry)) (now (vs .entry))) (length (now (ring .entry))) (now (ring .entry))) (now (ring .exit)) (now (log .entry)) (now (log .exit)) n (now (triangles .entry)) (now (triangles .exit)) r ⌝ }
+    ensures { λ r. ⌜ RingClipped (flatsIn us vs) ring log n triangles r ⌝ }
 {
     forget_all(why);
     let mut left = ring.len();

@@ -4,11 +4,10 @@ ghost use mathlib.Core.List.{map};
 ghost use Prim.Native.Nat.{_+_, _<_, _≤_, _^_};
 ghost use lib.ListN.{length};
 ghost use Rattle.lid.specs.Log.{entry};
-ghost use Rattle.lid.specs.Rings.{flats};
-ghost use Rattle.lid.specs.Clipping.{clip};
+ghost use Rattle.lid.specs.Rings.{flatsIn};
 ghost use Rattle.lid.specs.Lid.{lastTriangle};
-ghost use Rattle.lid.specs.Written.{logWith, trianglesWith, WritesLid};
-ghost use Rattle.cutting.specs.CutRing.{ringEntries, ringTriangles};
+ghost use Rattle.lid.specs.Written.{logWith, trianglesWith, LidWritten};
+ghost use Rattle.cutting.specs.CutRing.{ringLid};
 use clipping::clip;
 use entries::put_entry;
 use entries::put_triangle;
@@ -34,8 +33,8 @@ fn put_left(ring: &[u32], log: &mut [u32], n: u32)
 // Writes the triangle of the corners left, if they are three that turn left. The result is how many triangles there then are.
 fn put_last(us: &[f32], vs: &[f32], ring: &[u32], triangles: &mut [u32], count: u32) -> u32
     requires { ⌜ count + 1 < 2 ^ 32 ⌝ }
-    ensures { λ r. ⌜ r ≡ count + length (lastTriangle (flats (now (us .entry)) (now (vs .entry))) (now (ring .entry))) ⌝ }
-    ensures { λ _. ⌜ now (triangles .exit) ≡ trianglesWith (now (triangles .entry)) count (lastTriangle (flats (now (us .entry)) (now (vs .entry))) (now (ring .entry))) ⌝ }
+    ensures { λ r. ⌜ r ≡ count + length (lastTriangle (flatsIn us vs) (now (ring .entry))) ⌝ }
+    ensures { λ _. ⌜ now (triangles .exit) ≡ trianglesWith (now (triangles .entry)) count (lastTriangle (flatsIn us vs) (now (ring .entry))) ⌝ }
 {
     if ring.len() != 3 {
         return count;
@@ -65,7 +64,7 @@ pub fn cut_ring(
 ) -> LidCounts
     requires { ⌜ n + length (now ring) + 1 < 2 ^ 32 ⌝ }
     requires { ⌜ length (now ring) ≤ length (now why) ⌝ }
-    ensures { λ r. ⌜ WritesLid (ringEntries (clip (flats (now (us .entry)) (now (vs .entry))) (length (now (ring .entry))) (now (ring .entry)))) (ringTriangles (flats (now (us .entry)) (now (vs .entry))) (clip (flats (now (us .entry)) (now (vs .entry))) (length (now (ring .entry))) (now (ring .entry)))) (now (log .entry)) (now (log .exit)) n (now (triangles .entry)) (now (triangles .exit)) r ⌝ }
+    ensures { λ r. ⌜ LidWritten (ringLid (flatsIn us vs) (now (ring .entry))) log n triangles r ⌝ }
 {
     let c = clip(us, vs, ring, why, log, n, triangles);
     let left = c.left;

@@ -63,6 +63,10 @@ searched fs ring (suc m) i why = noteDown (λ w. searched fs ring m (suc i) w) w
 abbrev pub blocks : List Flat → Corners → Flat → Flat → Flat → List ℕ → ℕ → Bool
 blocks fs t a b c ring k = not (clearBy t a b c (getD ring k 0) (corner fs (getD ring k 0)))
 
+-- the first place from `from` on whose corner does
+abbrev pub firstBlock : List Flat → Corners → Flat → Flat → Flat → List ℕ → ℕ → Found
+firstBlock fs t a b c ring from = first (blocks fs t a b c ring) (length ring - from) from
+
 -- the test of a corner by the corner's place
 unfoldable pub behind : Found → Found
 behind (At k) = At (k + 1)

@@ -1,12 +1,12 @@
 // The search for an ear. How far a place's tests have come is noted, so that they go on from there, and a place that failed one is passed over.
 ghost use mathlib.Core.Path.{_≡_};
-ghost use Prim.Native.Nat.{_-_, _<_, _≤_};
+ghost use Prim.Native.Nat.{_<_, _≤_};
 ghost use lib.ListN.{length};
 ghost use Rattle.lists.specs.Loops.{first};
-ghost use Rattle.lid.specs.Rings.{flats, corner, turn};
+ghost use Rattle.lid.specs.Rings.{flats, flatsIn, corner, turn};
 ghost use Rattle.lid.specs.Clipping.{isEar};
 ghost use Rattle.lid.specs.Steps.{clearBy};
-ghost use Rattle.ears.specs.Ears.{Known, blocks, behind, told, tested, searched};
+ghost use Rattle.ears.specs.Ears.{Known, firstBlock, behind, told, tested, searched};
 use flats::flat_at;
 use flats::turn;
 use lid::CornerNumber;
@@ -44,7 +44,7 @@ fn common(us: &[f32], vs: &[f32]) -> usize
 // `flat_at` by one test, for the corners below such a number.
 fn flat_in(us: &[f32], vs: &[f32], both: usize, c: CornerNumber) -> Flat
     requires { ⌜ (both ≤ length (now us)) × (both ≤ length (now vs)) ⌝ }
-    ensures { λ r. ⌜ r ≡ corner (flats (now (us .entry)) (now (vs .entry))) (c .0) ⌝ }
+    ensures { λ r. ⌜ r ≡ corner (flatsIn us vs) (c .0) ⌝ }
 {
     let i = c.0 as usize;
     if i < both {
@@ -64,7 +64,7 @@ fn find_block(
     c: Flat,
     from: usize,
 ) -> Found
-    ensures { λ r. ⌜ r ≡ first (blocks (flats (now (us .entry)) (now (vs .entry))) t a b c (now (ring .entry))) (length (now (ring .entry)) - from) from ⌝ }
+    ensures { λ r. ⌜ r ≡ firstBlock (flatsIn us vs) t a b c (now (ring .entry)) from ⌝ }
 {
     let both = common(us, vs);
     let mut k = from;
@@ -89,7 +89,7 @@ fn test_corners(
     c: Flat,
     from: usize,
 ) -> Tested
-    ensures { λ r. ⌜ r ≡ told (behind (first (blocks (flats (now (us .entry)) (now (vs .entry))) t a b c (now (ring .entry))) (length (now (ring .entry)) - from) from)) ⌝ }
+    ensures { λ r. ⌜ r ≡ told (behind (firstBlock (flatsIn us vs) t a b c (now (ring .entry)) from)) ⌝ }
 {
     let Found::At(k) = find_block(us, vs, ring, t, a, b, c, from) else {
         return Tested::Ear;
@@ -100,7 +100,7 @@ fn test_corners(
 // What the tests of a place tell, from the first on that its note q says nothing of.
 fn test_place(us: &[f32], vs: &[f32], ring: &[u32], at: RingPlace, q: u32) -> Tested
     requires { ⌜ at .0 < length (now ring) ⌝ }
-    ensures { λ r. ⌜ r ≡ tested (flats (now (us .entry)) (now (vs .entry))) (now (ring .entry)) (at .0) q ⌝ }
+    ensures { λ r. ⌜ r ≡ tested (flatsIn us vs) (now (ring .entry)) (at .0) q ⌝ }
 {
     let t = corners_at(ring, at);
     let a = flat_at(us, vs, t.a);
@@ -119,9 +119,9 @@ fn test_place(us: &[f32], vs: &[f32], ring: &[u32], at: RingPlace, q: u32) -> Te
 pub fn find_ear(us: &[f32], vs: &[f32], ring: &[u32], why: &mut [u32]) -> Found
     requires { ⌜ length (now why) ≡ length (now ring) ⌝ }
     requires { ⌜ Known (flats (now us) (now vs)) (now ring) (now why) ⌝ }
-    ensures { λ r. ⌜ r ≡ first (isEar (flats (now (us .entry)) (now (vs .entry))) (now (ring .entry))) (length (now (ring .entry))) 0 ⌝ }
-    ensures { λ _. ⌜ now (why .exit) ≡ searched (flats (now (us .entry)) (now (vs .entry))) (now (ring .entry)) (length (now (ring .entry))) 0 (now (why .entry)) ⌝ }
-    ensures { λ _. ⌜ Known (flats (now (us .entry)) (now (vs .entry))) (now (ring .entry)) (now (why .exit)) ⌝ }
+    ensures { λ r. ⌜ r ≡ first (isEar (flatsIn us vs) (now (ring .entry))) (length (now (ring .entry))) 0 ⌝ }
+    ensures { λ _. ⌜ now (why .exit) ≡ searched (flatsIn us vs) (now (ring .entry)) (length (now (ring .entry))) 0 (now (why .entry)) ⌝ }
+    ensures { λ _. ⌜ Known (flatsIn us vs) (now (ring .entry)) (now (why .exit)) ⌝ }
 {
     let mut i = 0;
     while i < ring.len() {

@@ -2,14 +2,14 @@
 ghost use mathlib.Core.Path.{_≡_};
 ghost use Prim.Native.Nat.{_<_};
 ghost use lib.ListN.{length, getD};
-ghost use Rattle.lid.specs.Rings.{flats, corner, turn};
+ghost use Rattle.lid.specs.Rings.{flatsIn, corner, turn};
 use lid::CornerNumber;
 use lid::Flat;
 use lid::RingPlace;
 
 // The flat corner with a number, whose coordinates two slices hold; zeros past the last corner.
 pub fn flat_at(us: &[f32], vs: &[f32], c: CornerNumber) -> Flat
-    ensures { λ r. ⌜ r ≡ corner (flats (now (us .entry)) (now (vs .entry))) (c .0) ⌝ }
+    ensures { λ r. ⌜ r ≡ corner (flatsIn us vs) (c .0) ⌝ }
 {
     let i = c.0 as usize;
     if i < us.len() {
@@ -24,7 +24,7 @@ pub fn flat_at(us: &[f32], vs: &[f32], c: CornerNumber) -> Flat
 // The flat corner at a place of a ring.
 pub fn flat_of(us: &[f32], vs: &[f32], ring: &[u32], at: RingPlace) -> Flat
     requires { ⌜ at .0 < length (now ring) ⌝ }
-    ensures { λ r. ⌜ r ≡ corner (flats (now (us .entry)) (now (vs .entry))) (getD (now (ring .entry)) (at .0) 0) ⌝ }
+    ensures { λ r. ⌜ r ≡ corner (flatsIn us vs) (getD (now (ring .entry)) (at .0) 0) ⌝ }
 {
     let i = at.0;
     flat_at(us, vs, CornerNumber(ring[i]))

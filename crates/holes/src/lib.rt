@@ -2,9 +2,9 @@
 ghost use mathlib.Core.Path.{_≡_};
 ghost use Prim.Native.Nat.{_<_, _≤_, _^_};
 ghost use lib.ListN.{length, getD, take};
-ghost use Rattle.lid.specs.Rings.{flats, tooSmall, turnHole};
+ghost use Rattle.lid.specs.Rings.{flatsIn, tooSmall};
 ghost use Rattle.lid.specs.Written.{cornerTotal};
-ghost use Rattle.holes.specs.Holes.{startOf, holeCorners};
+ghost use Rattle.holes.specs.Holes.{startOf, holeCorners, holeRing};
 use ring::write_ring;
 
 // The number of hole g's first corner; past the last hole, how many corners there are.
@@ -34,8 +34,8 @@ pub fn write_hole(
     requires { ⌜ g < length (now counts) ⌝ }
     requires { ⌜ cornerTotal outer (now counts) < 2 ^ 32 ⌝ }
     requires { ⌜ getD (now counts) g 0 ≤ length (now hole) ⌝ }
-    ensures { λ r. ⌜ r ≡ tooSmall (flats (now (us .entry)) (now (vs .entry))) (holeCorners outer (now (counts .entry)) g) ⌝ }
-    ensures { λ _. ⌜ take (getD (now (counts .entry)) g 0) (now (hole .exit)) ≡ turnHole (flats (now (us .entry)) (now (vs .entry))) (holeCorners outer (now (counts .entry)) g) ⌝ }
+    ensures { λ r. ⌜ r ≡ tooSmall (flatsIn us vs) (holeCorners outer (now (counts .entry)) g) ⌝ }
+    ensures { λ _. ⌜ take (getD (now (counts .entry)) g 0) (now (hole .exit)) ≡ holeRing (flatsIn us vs) outer (now (counts .entry)) g ⌝ }
 {
     let h = counts[g] as usize;
     let from = hole_start(outer, counts, g);

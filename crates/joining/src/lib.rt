@@ -1,14 +1,11 @@
 // Holes joined to the ring, one after the other.
-ghost use mathlib.Core.List.{map};
 ghost use Prim.Native.Nat.{_+_, _<_, _≤_, _^_};
-ghost use lib.ListN.{length, getD, take};
+ghost use lib.ListN.{length, getD};
 ghost use Rattle.lists.specs.Each.{Each};
-ghost use Rattle.lists.specs.Loops.{sumOf};
-ghost use Rattle.lid.specs.Rings.{flats, turnHole};
-ghost use Rattle.lid.specs.Bridges.{joinAll};
+ghost use Rattle.lid.specs.Rings.{flatsIn};
 ghost use Rattle.lid.specs.Written.{cornerTotal};
-ghost use Rattle.holes.specs.Holes.{holeCorners, holeAt, Joinable};
-ghost use Rattle.joining.specs.Joined.{Joins, JoinsAll};
+ghost use Rattle.holes.specs.Holes.{holeRing, holesNumbered, Joinable};
+ghost use Rattle.joining.specs.Joined.{HoleJoined, HolesJoined, placesJoined};
 use bridges::bridge;
 use entries::put_entry;
 use holes::write_hole;
@@ -27,7 +24,7 @@ fn join(
     g: u32,
 ) -> usize
     requires { ⌜ (0 < length (now hole)) × (m + length (now hole) + 2 ≤ length (now ring)) × (length (now ring) < 2 ^ 32) ⌝ }
-    ensures { λ r. ⌜ Joins (flats (now (us .entry)) (now (vs .entry))) (take m (now (ring .entry))) (now (hole .entry)) g (now (ring .exit)) (now (log .entry)) (now (log .exit)) n r ⌝ }
+    ensures { λ r. ⌜ HoleJoined (flatsIn us vs) (now (hole .entry)) g ring m log n r ⌝ }
 {
     match bridge(us, vs, &ring[..m], hole) {
         Bridged::Joined(t, j) => {
@@ -59,7 +56,7 @@ fn join_hole(
     requires { ⌜ cornerTotal outer (now counts) < 2 ^ 32 ⌝ }
     requires { ⌜ Joinable (now counts) (length (now hole)) g ⌝ }
     requires { ⌜ (m + getD (now counts) g 0 + 2 ≤ length (now ring)) × (length (now ring) < 2 ^ 32) ⌝ }
-    ensures { λ r. ⌜ Joins (flats (now (us .entry)) (now (vs .entry))) (take m (now (ring .entry))) (turnHole (flats (now (us .entry)) (now (vs .entry))) (holeCorners outer (now (counts .entry)) g)) g (now (ring .exit)) (now (log .entry)) (now (log .exit)) n r ⌝ }
+    ensures { λ r. ⌜ HoleJoined (flatsIn us vs) (holeRing (flatsIn us vs) outer (now (counts .entry)) g) g ring m log n r ⌝ }
 {
     let k = g as usize;
     write_hole(us, vs, outer, counts, hole, k);
@@ -82,8 +79,8 @@ pub fn join_holes(
 ) -> usize
     requires { ⌜ cornerTotal outer (now counts) < 2 ^ 32 ⌝ }
     requires { ⌜ Each (Joinable (now counts) (length (now hole))) (now order) ⌝ }
-    requires { ⌜ (m + sumOf (λ g. getD (now counts) g 0 + 2) (now order) ≤ length (now ring)) × (length (now ring) < 2 ^ 32) × (n + length (now order) < 2 ^ 32) ⌝ }
-    ensures { λ r. ⌜ JoinsAll (joinAll (flats (now (us .entry)) (now (vs .entry))) (map (holeAt (flats (now (us .entry)) (now (vs .entry))) outer (now (counts .entry))) (now (order .entry))) (take m (now (ring .entry)))) (now (ring .exit)) (now (log .entry)) (now (log .exit)) n r ⌝ }
+    requires { ⌜ (m + placesJoined (now counts) (now order) ≤ length (now ring)) × (length (now ring) < 2 ^ 32) × (n + length (now order) < 2 ^ 32) ⌝ }
+    ensures { λ r. ⌜ HolesJoined (flatsIn us vs) (holesNumbered (flatsIn us vs) outer (now (counts .entry)) (now (order .entry))) ring m log n r ⌝ }
 {
     let mut places = m;
     let mut entries = n;

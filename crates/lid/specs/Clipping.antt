@@ -62,3 +62,7 @@ clipBy later ring Stop = record { ring = ring; log = [] }
 unfoldable pub clip : List Flat → ℕ → List ℕ → Logged
 clip fs zero ring = record { ring = ring; log = [] }
 clip fs (suc n) ring = clipBy (λ r. clip fs n r) ring (clipStep fs ring)
+
+-- a ring clipped as far as it goes
+abbrev pub clipRing : List Flat → List ℕ → Logged
+clipRing fs ring = clip fs (length ring) ring

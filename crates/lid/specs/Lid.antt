@@ -12,7 +12,7 @@ use Rattle.lid.specs.declared.Flat.{Flat}
 use Rattle.lid.specs.Log.{Entry, entry, isMark, leftOver, Logged}
 use Rattle.lid.specs.Rings.{turnOf, tooSmall, turnOuter, ringsFrom, holesFrom, skippedFrom, inOrder}
 use Rattle.lid.specs.Bridges.{joinAll}
-use Rattle.lid.specs.Clipping.{clip}
+use Rattle.lid.specs.Clipping.{clipRing}
 
 pub record Lid : Type 0 where
   pub log : List Entry
@@ -31,7 +31,7 @@ lastTriangle fs ring =
 -- the entries of skipped holes, of the joining of the others and of the clipping, and the corners left
 unfoldable pub lidFrom : List Flat → List Entry → Logged → Lid
 lidFrom fs skipped j =
-    let k = clip fs (length (j .ring)) (j .ring) in
+    let k = clipRing fs (j .ring) in
     record { log = skipped ++ j .log ++ k .log ++ map (λ a. entry 3 a 0 0) (k .ring); triangles = earsOf (k .log) ++ lastTriangle fs (k .ring) }
 
 unfoldable pub lidRings : List Flat → List ℕ → List (List ℕ) → Lid

@@ -6,7 +6,9 @@ use mathlib.Core.List.{List, [], _∷_, reverse}
 use lib.ListN.{length, getD}
 use lib.Dec.{ltb}
 use lib.Ieee.{Float, lt}
+use denote.Ref.{now}
 use Rattle.lists.specs.Loops.{next, loop, fold, list}
+use Rattle.lists.specs.Slices.{Slice}
 use Rattle.float.specs.Number.{_+f_, _-f_, _*f_, zerof, minArea, minf}
 use Rattle.float.specs.Signs.{magnitude, larger, totalLess}
 use Rattle.lid.specs.declared.Flat.{Flat}
@@ -23,6 +25,10 @@ flat0 = record { u = zerof; v = zerof }
 -- the flat corners whose coordinates two lists hold
 unfoldable pub flats : List Float → List Float → List Flat
 flats us vs = list (λ i. record { u = getD us i zerof; v = getD vs i zerof }) (length us) 0
+
+-- and those of two slices, as they are lent
+abbrev pub flatsIn : Slice Float → Slice Float → List Flat
+flatsIn us vs = flats (now (us .entry)) (now (vs .entry))
 
 unfoldable pub corner : List Flat → ℕ → Flat
 corner fs i = getD fs i flat0

@@ -6,7 +6,9 @@ use mathlib.Core.List.{List, [], _∷_, _++_}
 use lib.ListN.{length, getD, take, drop}
 use lib.Dec.{eqb}
 use lib.Ieee.{lt}
+use denote.Ref.{now}
 use Rattle.lists.specs.Loops.{removeAt}
+use Rattle.lists.specs.Slices.{Slice}
 use Rattle.float.specs.Number.{zerof}
 use Rattle.float.specs.Signs.{signum}
 use Rattle.lid.specs.declared.Flat.{Flat}
@@ -17,7 +19,7 @@ use Rattle.lid.specs.declared.Clipped.{Clipped}
 use Rattle.lid.specs.Log.{Entry, entry, Logged}
 use Rattle.lid.specs.Written.{logWith, trianglesWith}
 use Rattle.lid.specs.Rings.{corner, turn, turnOuter, turnHole}
-use Rattle.lid.specs.Clipping.{before, here, after}
+use Rattle.lid.specs.Clipping.{before, here, after, clipRing}
 use Rattle.lid.specs.Lid.{earsOf}
 
 -- a corner by its number's type
@@ -52,6 +54,11 @@ pub record Cuts (mark : ℕ) (ring : List ℕ) (i : ℕ) (ring′ log log′ : L
   pub ears : triangles′ ≡ trianglesWith triangles count (earsOf (cutEntry mark ring i ∷ []))
   pub offered : r ≡ count + length (earsOf (cutEntry mark ring i ∷ []))
 
+-- the same of the lent slices: it was entry n of the log, and count triangles stood before its own
+abbrev pub CornerCut : ℕ → ℕ → Slice ℕ → Slice ℕ → ℕ → Slice ℕ → ℕ → ℕ → Type 0
+CornerCut mark i ring log n triangles count r =
+    Cuts mark (now (ring .entry)) i (now (ring .exit)) (now (log .entry)) (now (log .exit)) n (now (triangles .entry)) (now (triangles .exit)) count r
+
 -- a ring was clipped to k: its corners left are the first ones of the buffer, its entries stand in the log from entry n on, its ears in
 -- the triangles from the first
 pub record Clips (k : Logged) (ring′ log log′ : List ℕ) (n : ℕ) (triangles triangles′ : List ℕ) (r : Clipped) : Type 0 where
@@ -62,7 +69,16 @@ pub record Clips (k : Logged) (ring′ log log′ : List ℕ) (n : ℕ) (triangl
   pub ears : triangles′ ≡ trianglesWith triangles 0 (earsOf (k .log))
   pub offered : r .triangles ≡ length (earsOf (k .log))
 
+-- the ring in a lent slice was clipped, in its place
+abbrev pub RingClipped : List Flat → Slice ℕ → Slice ℕ → ℕ → Slice ℕ → Clipped → Type 0
+RingClipped fs ring log n triangles r =
+    Clips (clipRing fs (now (ring .entry))) (now (ring .exit)) (now (log .entry)) (now (log .exit)) n (now (triangles .entry)) (now (triangles .exit)) r
+
 -- ---- insertion
 
 unfoldable pub insertAt : ℕ → ℕ → List ℕ → List ℕ
 insertAt i v l = take i l ++ v ∷ drop i l
+
+-- a ring without its last n places
+abbrev pub butLast : ℕ → List ℕ → List ℕ
+butLast n ring = take (length ring - n) ring

@@ -4,11 +4,14 @@ use mathlib.Core.Path.{_≡_}
 use mathlib.Core.List.{List}
 use lib.ListN.{length}
 use lib.Seq.{sets}
+use denote.Ref.{now}
 use Rattle.lists.specs.Loops.{join, sumOf}
+use Rattle.lists.specs.Slices.{Slice}
 use Rattle.triangles.specs.Triangles.{Triangle}
 pub use Rattle.triangles.specs.Triangles.{triangleRecord}
 use Rattle.lid.specs.declared.LidCounts.{LidCounts}
 use Rattle.lid.specs.Log.{Entry, logNumbers}
+use Rattle.lid.specs.Lid.{Lid}
 
 -- how many corners an outline has, by its counts
 abbrev pub cornerTotal : ℕ → List ℕ → ℕ
@@ -30,3 +33,8 @@ pub record WritesLid (es : List Entry) (ts : List Triangle) (log log′ : List �
   pub entries : r .entries ≡ n + length es
   pub drawn : triangles′ ≡ trianglesWith triangles 0 ts
   pub offered : r .triangles ≡ length ts
+
+-- a lid was written into the lent slices: its log from entry n on, its triangles from the first
+abbrev pub LidWritten : Lid → Slice ℕ → ℕ → Slice ℕ → LidCounts → Type 0
+LidWritten l log n triangles r =
+    WritesLid (l .log) (l .triangles) (now (log .entry)) (now (log .exit)) n (now (triangles .entry)) (now (triangles .exit)) r

@@ -5,7 +5,7 @@ ghost use lib.ListN.{length, take, drop};
 ghost use Rattle.fields.specs.Fields.{countsAt};
 ghost use Rattle.flattening.specs.Plane.{flatten};
 ghost use Rattle.lid.specs.Rings.{flats};
-ghost use Rattle.lid.specs.Written.{WritesLid};
+ghost use Rattle.lid.specs.Written.{LidWritten};
 ghost use Rattle.corners.specs.Outlines.{pointsAt, PointsIn, lidAt, Measured};
 use axes::first_axis;
 use axes::flat_corner;
@@ -53,7 +53,7 @@ pub fn cut(
     triangles: &mut [u32],
 ) -> lid::LidCounts
     requires { ⌜ Measured (now s) o × (2 * o .n ≤ length (now room)) ⌝ }
-    ensures { λ r. ⌜ WritesLid (lidAt (now (s .entry)) (o .i) (o .outer) (o .holes) .log) (lidAt (now (s .entry)) (o .i) (o .outer) (o .holes) .triangles) (now (log .entry)) (now (log .exit)) 0 (now (triangles .entry)) (now (triangles .exit)) r ⌝ }
+    ensures { λ r. ⌜ LidWritten (lidAt (now (s .entry)) (o .i) (o .outer) (o .holes)) log 0 triangles r ⌝ }
 {
     let mut counts = [0; 32];
     let h = o.holes;

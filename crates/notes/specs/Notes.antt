@@ -1,11 +1,14 @@
 -- Notes of how far the tests of a ring's places have come: 2 j where the tests below test j pass, 2 j + 1 where test j fails besides. Test 0 of a
 -- place is its turn, test k + 1 the corner at place k. Definitions only.
+use mathlib.Core.Path.{_≡_}
 use mathlib.Core.Bool.{cond}
-use mathlib.Core.List.{List, map}
+use mathlib.Core.List.{List, _++_, map}
 use Prim.Native.Nat.{ℕ, _+_, _-_, _*_}
-use lib.ListN.{length, set}
+use lib.ListN.{length, set, take, drop}
 use lib.Dec.{ltb}
+use denote.Ref.{now}
 use Rattle.lists.specs.Loops.{next, previous, removeAt}
+use Rattle.lists.specs.Slices.{Slice}
 
 -- the note where test j is the first to fail; where the number is too large for a note, the greatest that says only that tests pass
 unfoldable pub failedAt : ℕ → ℕ
@@ -28,6 +31,14 @@ moved i q = movedBy (2 * i + 2) q
 unfoldable pub capped : ℕ → ℕ
 capped i = cond (ltb i 2147483647) (2 * i + 2) 4294967295
 
+-- notes of which those behind place i are moved, each to the place before its own
+abbrev pub movedBehind : ℕ → ℕ → List ℕ → List ℕ
+movedBehind low i why = take i why ++ map (movedBy low) (drop (i + 1) why)
+
 -- the notes of a ring where the corner at place i is removed: those of its neighbours, whose triangles change, start anew, and the others move
 unfoldable pub without : ℕ → List ℕ → List ℕ
 without i why = map (moved i) (removeAt i (set (set why (previous (length why) i) 0) (next (length why) i) 0))
+
+-- the notes in a lent slice became those; its last place is left over
+abbrev pub PlaceForgotten : ℕ → Slice ℕ → Type 0
+PlaceForgotten i why = take (length (now (why .entry)) - 1) (now (why .exit)) ≡ without i (now (why .entry))

@@ -2,10 +2,10 @@
 // A place is an ear if it passes every test: test 0 is its turn, and test k + 1 the corner at place k. The note 2 j says that the tests below
 // test j pass, and 2 j + 1 that test j fails besides.
 ghost use mathlib.Core.Path.{_≡_};
-ghost use mathlib.Core.List.{_++_, map};
+ghost use mathlib.Core.List.{map};
 ghost use Prim.Native.Nat.{_+_, _-_, _<_};
-ghost use lib.ListN.{length, take, drop, replicate};
-ghost use Rattle.notes.specs.Notes.{failedAt, capped, down, movedBy, without};
+ghost use lib.ListN.{length, take, replicate};
+ghost use Rattle.notes.specs.Notes.{failedAt, capped, down, movedBy, movedBehind, PlaceForgotten};
 use lid::RingPlace;
 use places::place_after;
 use places::place_before;
@@ -71,7 +71,7 @@ fn shift_all(why: &mut [u32], low: u32)
 // The same for the notes behind a place, which take the places before theirs; the last place keeps its note.
 fn shift_behind(why: &mut [u32], at: RingPlace, low: u32)
     requires { ⌜ at .0 < length (now why) ⌝ }
-    ensures { λ _. ⌜ take (length (now (why .entry)) - 1) (now (why .exit)) ≡ take (at .0) (now (why .entry)) ++ map (movedBy low) (drop (at .0 + 1) (now (why .entry))) ⌝ }
+    ensures { λ _. ⌜ take (length (now (why .entry)) - 1) (now (why .exit)) ≡ movedBehind low (at .0) (now (why .entry)) ⌝ }
 {
     let mut k = at.0;
     let last = why.len() - 1;
@@ -85,7 +85,7 @@ fn shift_behind(why: &mut [u32], at: RingPlace, low: u32)
 // The notes where the corner at a place is removed: those of its neighbours, whose triangles change, start anew, and the others move.
 pub fn forget(why: &mut [u32], at: RingPlace)
     requires { ⌜ at .0 < length (now why) ⌝ }
-    ensures { λ _. ⌜ take (length (now (why .entry)) - 1) (now (why .exit)) ≡ without (at .0) (now (why .entry)) ⌝ }
+    ensures { λ _. ⌜ PlaceForgotten (at .0) why ⌝ }
 {
     let n = why.len();
     let i = at.0;

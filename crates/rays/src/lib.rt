@@ -2,7 +2,7 @@
 ghost use mathlib.Core.Path.{_≡_};
 ghost use Prim.Native.Nat.{_+_, _<_};
 ghost use lib.ListN.{length};
-ghost use Rattle.lid.specs.Rings.{flats};
+ghost use Rattle.lid.specs.Rings.{flatsIn};
 ghost use Rattle.lid.specs.Bridges.{rightmostStep, rightmost, passes, meets, noNearer, hitEdge, hitAt, firstHit};
 use flats::flat_of;
 use lid::Flat;
@@ -13,7 +13,7 @@ use places::place_after;
 // Of two places of a hole the one further right, and `at` if neither is.
 fn rightmost_step(us: &[f32], vs: &[f32], hole: &[u32], at: RingPlace, best: RingPlace) -> RingPlace
     requires { ⌜ (at .0 < length (now hole)) × (best .0 < length (now hole)) ⌝ }
-    ensures { λ r. ⌜ (r .0 ≡ rightmostStep (flats (now (us .entry)) (now (vs .entry))) (now (hole .entry)) (at .0) (best .0)) × (r .0 < length (now (hole .entry))) ⌝ }
+    ensures { λ r. ⌜ (r .0 ≡ rightmostStep (flatsIn us vs) (now (hole .entry)) (at .0) (best .0)) × (r .0 < length (now (hole .entry))) ⌝ }
 {
     let a = flat_of(us, vs, hole, at);
     let b = flat_of(us, vs, hole, best);
@@ -26,7 +26,7 @@ fn rightmost_step(us: &[f32], vs: &[f32], hole: &[u32], at: RingPlace, best: Rin
 // The last of a hole's rightmost places.
 pub fn rightmost(us: &[f32], vs: &[f32], hole: &[u32]) -> RingPlace
     requires { ⌜ 0 < length (now hole) ⌝ }
-    ensures { λ r. ⌜ (r .0 ≡ rightmost (flats (now (us .entry)) (now (vs .entry))) (now (hole .entry))) × (r .0 < length (now (hole .entry))) ⌝ }
+    ensures { λ r. ⌜ (r .0 ≡ rightmost (flatsIn us vs) (now (hole .entry))) × (r .0 < length (now (hole .entry))) ⌝ }
 {
     let mut best = RingPlace(0);
     let mut k = 0;
@@ -81,7 +81,7 @@ fn hit_edge(m: Flat, a: Flat, b: Flat, k: RingPlace, j: RingPlace, h: Hit) -> Hi
 // The hit after the edge from a place of the ring on.
 fn hit_at(us: &[f32], vs: &[f32], ring: &[u32], m: Flat, at: RingPlace, h: Hit) -> Hit
     requires { ⌜ at .0 < length (now ring) ⌝ }
-    ensures { λ r. ⌜ r ≡ hitAt (flats (now (us .entry)) (now (vs .entry))) (now (ring .entry)) m (at .0) h ⌝ }
+    ensures { λ r. ⌜ r ≡ hitAt (flatsIn us vs) (now (ring .entry)) m (at .0) h ⌝ }
 {
     let j = place_after(ring.len(), at);
     let a = flat_of(us, vs, ring, at);
@@ -91,7 +91,7 @@ fn hit_at(us: &[f32], vs: &[f32], ring: &[u32], m: Flat, at: RingPlace, h: Hit) 
 
 // Where the ray from m meets the ring first.
 pub fn first_hit(us: &[f32], vs: &[f32], ring: &[u32], m: Flat) -> Hit
-    ensures { λ r. ⌜ r ≡ firstHit (flats (now (us .entry)) (now (vs .entry))) (now (ring .entry)) m ⌝ }
+    ensures { λ r. ⌜ r ≡ firstHit (flatsIn us vs) (now (ring .entry)) m ⌝ }
 {
     let mut h = Hit::Nothing;
     let mut k = 0;

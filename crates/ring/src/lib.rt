@@ -4,7 +4,7 @@ ghost use mathlib.Core.List.{reverse};
 ghost use Prim.Native.Nat.{_+_, _-_, _<_, _≤_, _^_};
 ghost use lib.ListN.{length};
 ghost use Rattle.lists.specs.Loops.{list};
-ghost use Rattle.lid.specs.Rings.{flats, tooSmall};
+ghost use Rattle.lid.specs.Rings.{flatsIn, tooSmall};
 ghost use Rattle.lid.specs.Steps.{turned};
 use areas::area;
 use float::MIN_AREA;
@@ -40,8 +40,8 @@ fn fill_down(ring: &mut [u32], to: u32)
 // Writes the ring of the corners from `from` on, turned as the outer ring or as a hole. Says whether it is too small.
 pub fn write_ring(us: &[f32], vs: &[f32], ring: &mut [u32], from: u32, outer: bool) -> bool
     requires { ⌜ from + length (now ring) < 2 ^ 32 ⌝ }
-    ensures { λ r. ⌜ r ≡ tooSmall (flats (now (us .entry)) (now (vs .entry))) (list (λ i. i) (length (now (ring .entry))) from) ⌝ }
-    ensures { λ r. ⌜ now (ring .exit) ≡ turned outer (flats (now (us .entry)) (now (vs .entry))) (list (λ i. i) (length (now (ring .entry))) from) ⌝ }
+    ensures { λ r. ⌜ r ≡ tooSmall (flatsIn us vs) (list (λ i. i) (length (now (ring .entry))) from) ⌝ }
+    ensures { λ r. ⌜ now (ring .exit) ≡ turned outer (flatsIn us vs) (list (λ i. i) (length (now (ring .entry))) from) ⌝ }
 {
     fill(ring, from);
     let a = area(us, vs, ring);

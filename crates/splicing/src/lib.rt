@@ -1,16 +1,16 @@
 // A hole put into a ring, in place.
 ghost use mathlib.Core.Path.{_≡_};
 ghost use mathlib.Core.List.{_++_};
-ghost use Prim.Native.Nat.{_+_, _-_, _<_, _≤_};
+ghost use Prim.Native.Nat.{_+_, _<_, _≤_};
 ghost use lib.ListN.{length, take, drop};
 ghost use Rattle.lid.specs.Bridges.{splice};
-ghost use Rattle.lid.specs.Steps.{insertAt};
+ghost use Rattle.lid.specs.Steps.{insertAt, butLast};
 use lid::RingPlace;
 
 // Inserts v at a place: those from there on move up, over the last place.
 pub fn insert(ring: &mut [u32], at: RingPlace, v: u32)
     requires { ⌜ at .0 < length (now ring) ⌝ }
-    ensures { λ _. ⌜ now (ring .exit) ≡ insertAt (at .0) v (take (length (now (ring .entry)) - 1) (now (ring .entry))) ⌝ }
+    ensures { λ _. ⌜ now (ring .exit) ≡ insertAt (at .0) v (butLast 1 (now (ring .entry))) ⌝ }
 {
     let last = ring.len() - 1;
     let mut carry = v;
@@ -27,7 +27,7 @@ pub fn insert(ring: &mut [u32], at: RingPlace, v: u32)
 // Moves the corners from place t on up by `gap` places, over as many last places.
 fn make_room(ring: &mut [u32], t: usize, gap: usize)
     requires { ⌜ (0 < gap) × (t + gap ≤ length (now ring)) ⌝ }
-    ensures { λ _. ⌜ now (ring .exit) ≡ take (t + gap) (now (ring .entry)) ++ drop t (take (length (now (ring .entry)) - gap) (now (ring .entry))) ⌝ }
+    ensures { λ _. ⌜ now (ring .exit) ≡ take (t + gap) (now (ring .entry)) ++ drop t (butLast gap (now (ring .entry))) ⌝ }
 {
     let end = t + gap;
     let mut k = ring.len();
@@ -41,7 +41,7 @@ fn make_room(ring: &mut [u32], t: usize, gap: usize)
 pub fn splice(ring: &mut [u32], at: RingPlace, hole: &[u32], j: RingPlace)
     requires { ⌜ at .0 + length (now hole) + 2 < length (now ring) ⌝ }
     requires { ⌜ j .0 < length (now hole) ⌝ }
-    ensures { λ _. ⌜ now (ring .exit) ≡ splice (take (length (now (ring .entry)) - (length (now (hole .entry)) + 2)) (now (ring .entry))) (now (hole .entry)) (at .0) (j .0) ⌝ }
+    ensures { λ _. ⌜ now (ring .exit) ≡ splice (butLast (length (now (hole .entry)) + 2) (now (ring .entry))) (now (hole .entry)) (at .0) (j .0) ⌝ }
 {
     let t = at.0;
     let b = j.0;

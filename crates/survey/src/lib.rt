@@ -4,9 +4,9 @@ ghost use mathlib.Core.List.{_∷_, []};
 ghost use Prim.Native.Nat.{_+_, _<_, _≤_, _^_};
 ghost use lib.ListN.{length, getD, take};
 ghost use Rattle.lists.specs.Loops.{sumOf};
-ghost use Rattle.lid.specs.Rings.{flats, tooSmall, turnHole, right};
+ghost use Rattle.lid.specs.Rings.{flatsIn, tooSmall, right};
 ghost use Rattle.lid.specs.Written.{logWith, cornerTotal};
-ghost use Rattle.holes.specs.Holes.{holeCorners, rightsOf, smallOf, skips};
+ghost use Rattle.holes.specs.Holes.{holeCorners, holeRing, rightsOf, smallOf, skips, allSkips};
 use areas::right;
 use entries::put_entry;
 use holes::write_hole;
@@ -23,8 +23,8 @@ fn survey_hole(
     requires { ⌜ g < length (now counts) ⌝ }
     requires { ⌜ cornerTotal outer (now counts) < 2 ^ 32 ⌝ }
     requires { ⌜ getD (now counts) g 0 ≤ length (now hole) ⌝ }
-    ensures { λ r. ⌜ r .right ≡ right (flats (now (us .entry)) (now (vs .entry))) (turnHole (flats (now (us .entry)) (now (vs .entry))) (holeCorners outer (now (counts .entry)) g)) ⌝ }
-    ensures { λ r. ⌜ r .small ≡ tooSmall (flats (now (us .entry)) (now (vs .entry))) (holeCorners outer (now (counts .entry)) g) ⌝ }
+    ensures { λ r. ⌜ r .right ≡ right (flatsIn us vs) (holeRing (flatsIn us vs) outer (now (counts .entry)) g) ⌝ }
+    ensures { λ r. ⌜ r .small ≡ tooSmall (flatsIn us vs) (holeCorners outer (now (counts .entry)) g) ⌝ }
 {
     let small = write_hole(us, vs, outer, counts, hole, g);
     let h = counts[g] as usize;
@@ -60,10 +60,10 @@ pub fn survey(
     requires { ⌜ (cornerTotal outer (now counts) < 2 ^ 32) × (length (now counts) < 2 ^ 31) ⌝ }
     requires { ⌜ sumOf (λ n. n) (now counts) ≤ length (now hole) ⌝ }
     requires { ⌜ (length (now counts) ≤ length (now rights)) × (length (now counts) ≤ length (now small)) ⌝ }
-    ensures { λ _. ⌜ take (length (now (counts .entry))) (now (rights .exit)) ≡ rightsOf (flats (now (us .entry)) (now (vs .entry))) outer (now (counts .entry)) ⌝ }
-    ensures { λ _. ⌜ take (length (now (counts .entry))) (now (small .exit)) ≡ smallOf (flats (now (us .entry)) (now (vs .entry))) outer (now (counts .entry)) ⌝ }
-    ensures { λ r. ⌜ r ≡ length (skips 0 (smallOf (flats (now (us .entry)) (now (vs .entry))) outer (now (counts .entry)))) ⌝ }
-    ensures { λ _. ⌜ now (log .exit) ≡ logWith (now (log .entry)) 0 (skips 0 (smallOf (flats (now (us .entry)) (now (vs .entry))) outer (now (counts .entry)))) ⌝ }
+    ensures { λ _. ⌜ take (length (now (counts .entry))) (now (rights .exit)) ≡ rightsOf (flatsIn us vs) outer (now (counts .entry)) ⌝ }
+    ensures { λ _. ⌜ take (length (now (counts .entry))) (now (small .exit)) ≡ smallOf (flatsIn us vs) outer (now (counts .entry)) ⌝ }
+    ensures { λ r. ⌜ r ≡ length (allSkips (flatsIn us vs) outer (now (counts .entry))) ⌝ }
+    ensures { λ _. ⌜ now (log .exit) ≡ logWith (now (log .entry)) 0 (allSkips (flatsIn us vs) outer (now (counts .entry))) ⌝ }
 {
     let mut n = 0;
     let mut g = 0;

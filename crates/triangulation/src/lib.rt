@@ -1,17 +1,13 @@
 // A whole lid, as `triangulate`, with the log.
 ghost use mathlib.Core.Path.{_≡_};
-ghost use mathlib.Core.List.{map};
 ghost use Prim.Native.Nat.{_+_, _<_, _≤_, _^_};
-ghost use lib.ListN.{length, getD, take};
+ghost use lib.ListN.{length, take};
 ghost use Rattle.lists.specs.Loops.{sumOf};
-ghost use Rattle.lists.specs.Each.{Each};
 ghost use Rattle.lists.specs.Loops.{list};
-ghost use Rattle.lid.specs.Rings.{flats, turnOuter};
-ghost use Rattle.lid.specs.Bridges.{joinAll};
+ghost use Rattle.lid.specs.Rings.{flats, flatsIn, turnOuter};
 ghost use Rattle.lid.specs.Lid.{lidOf};
-ghost use Rattle.lid.specs.Written.{cornerTotal, WritesLid};
-ghost use Rattle.holes.specs.Holes.{holeAt, Joinable};
-ghost use Rattle.triangulation.specs.Opened.{Prepares, openEntries, openTriangles, lidOpen, BuffersFit};
+ghost use Rattle.lid.specs.Written.{cornerTotal, LidWritten};
+ghost use Rattle.triangulation.specs.Opened.{HolesPrepared, lidOpen, BuffersFit};
 use cutting::cut_ring;
 use entries::put_entry;
 use holes::hole_start;
@@ -35,7 +31,7 @@ fn prepare(
     requires { ⌜ (cornerTotal outer (now counts) < 2 ^ 32) × (length (now counts) ≤ 32) ⌝ }
     requires { ⌜ sumOf (λ n. n) (now counts) ≤ length (now hole) ⌝ }
     requires { ⌜ length (now counts) ≤ length (now order) ⌝ }
-    ensures { λ r. ⌜ Prepares (flats (now (us .entry)) (now (vs .entry))) outer (now (counts .entry)) (length (now (hole .entry))) (now (order .exit)) (now (log .entry)) (now (log .exit)) r ⌝ }
+    ensures { λ r. ⌜ HolesPrepared (flatsIn us vs) outer (now (counts .entry)) (length (now (hole .entry))) order log r ⌝ }
 {
     let mut rights = [0.0; 32];
     let mut small = [false; 32];
@@ -58,7 +54,7 @@ fn cut_open(
 ) -> LidCounts
     requires { ⌜ BuffersFit outer (now counts) (length (now ring)) (length (now hole)) ⌝ }
     requires { ⌜ take outer (now ring) ≡ turnOuter (flats (now us) (now vs)) (list (λ i. i) outer 0) ⌝ }
-    ensures { λ r. ⌜ WritesLid (lidOpen (flats (now (us .entry)) (now (vs .entry))) outer (now (counts .entry)) .log) (lidOpen (flats (now (us .entry)) (now (vs .entry))) outer (now (counts .entry)) .triangles) (now (log .entry)) (now (log .exit)) 0 (now (triangles .entry)) (now (triangles .exit)) r ⌝ }
+    ensures { λ r. ⌜ LidWritten (lidOpen (flatsIn us vs) outer (now (counts .entry))) log 0 triangles r ⌝ }
 {
     let mut order = [0; 32];
     let p = prepare(us, vs, outer, counts, hole, &mut order, log);
@@ -98,7 +94,7 @@ fn cut_lid(
     triangles: &mut [u32],
 ) -> LidCounts
     requires { ⌜ BuffersFit outer (now counts) (length (now ring)) (length (now hole)) ⌝ }
-    ensures { λ r. ⌜ WritesLid (lidOf (flats (now (us .entry)) (now (vs .entry))) outer (now (counts .entry)) .log) (lidOf (flats (now (us .entry)) (now (vs .entry))) outer (now (counts .entry)) .triangles) (now (log .entry)) (now (log .exit)) 0 (now (triangles .entry)) (now (triangles .exit)) r ⌝ }
+    ensures { λ r. ⌜ LidWritten (lidOf (flatsIn us vs) outer (now (counts .entry))) log 0 triangles r ⌝ }
 {
     let m = outer as usize;
     if write_ring(us, vs, &mut ring[..m], 0, true) {
@@ -122,7 +118,7 @@ pub fn triangulate(
     triangles: &mut [u32],
 ) -> LidCounts
     requires { ⌜ (cornerTotal outer (now counts) ≤ 512) × (length (now counts) ≤ 32) ⌝ }
-    ensures { λ r. ⌜ WritesLid (lidOf (flats (now (us .entry)) (now (vs .entry))) outer (now (counts .entry)) .log) (lidOf (flats (now (us .entry)) (now (vs .entry))) outer (now (counts .entry)) .triangles) (now (log .entry)) (now (log .exit)) 0 (now (triangles .entry)) (now (triangles .exit)) r ⌝ }
+    ensures { λ r. ⌜ LidWritten (lidOf (flatsIn us vs) outer (now (counts .entry))) log 0 triangles r ⌝ }
 {
     let n = counts.len();
     // Most lids have few corners, and small arrays are cleared sooner.
