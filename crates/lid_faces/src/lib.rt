@@ -11,9 +11,9 @@ ghost use Rattle.face.specs.Faces.{TriangleLow};
 ghost use Rattle.triangles.specs.Triangles.{trianglesIn};
 ghost use Rattle.face.specs.Drawing.{Room};
 ghost use Rattle.shapes.specs.Shapes.{hasHeight};
-ghost use Rattle.shapes.specs.Stages.{lidStages, DrawsTwo};
+ghost use Rattle.shapes.specs.Stages.{DrawsTwo};
 ghost use Rattle.corners.specs.Outlines.{pointsAt, CornersIn, PointsIn, allIn, lidIn, Measured};
-ghost use Rattle.lid_faces.specs.Caps.{Caps};
+ghost use Rattle.lid_faces.specs.Caps.{capStages, Caps};
 use corners::OutlineAt;
 use face::Tally;
 use geometry::point_at;
@@ -62,7 +62,7 @@ fn lid_faces(
 ) -> Lids
     requires { ⌜ CornersIn (now s) (o .at) (o .n) × (3 * o .n ≤ length (now points)) × (o .high ≡ hasHeight (allIn (now s) o)) ⌝ }
     requires { ⌜ Room before t (2 * o .n) (2 * (length (now triangles) / 3)) × Each (TriangleLow (o .n)) (trianglesIn (now triangles)) ⌝ }
-    ensures { λ r. ⌜ DrawsTwo limit (lidStages (allIn (now (s .entry)) o) (o .lid) (trianglesIn (now (triangles .entry)))) before t (r .lid) (r .floor) vs ns is ⌝ }
+    ensures { λ r. ⌜ DrawsTwo limit (capStages (now (s .entry)) o (trianglesIn (now (triangles .entry)))) before t (r .lid) (r .floor) vs ns is ⌝ }
 {
     let m = 3 * (o.n as usize);
     put_points(s, o.at + 12, o.n, points);

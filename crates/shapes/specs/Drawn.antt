@@ -41,4 +41,5 @@ DrawsObject limit sh before r vs ns is ls =
 -- of a shape without a log, where none is lent: it holds of any
 abbrev pub DrawsUnlogged : Float → Shape → ℕ → Drawn → Slice Float → Slice Float → Slice ℕ → Type 0
 DrawsUnlogged limit sh before r vs ns is =
-    (log : List ℕ) → DrewObject limit sh before (now (vs .entry)) (now (ns .entry)) (now (is .entry)) log r (now (vs .exit)) (now (ns .exit)) (now (is .exit)) log
+    (ls : List ℕ) → DrewObject limit sh before (now (vs .entry)) (now (ns .entry)) (now (is .entry)) ls r
+    (now (vs .exit)) (now (ns .exit)) (now (is .exit)) ls
