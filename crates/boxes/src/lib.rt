@@ -4,10 +4,10 @@ ghost use mathlib.Core.List.{[], _∷_};
 ghost use Prim.Native.Nat.{ℕ};
 ghost use Rattle.float.specs.Number.{zerof, onef};
 ghost use Rattle.object.specs.Object.{frame};
-ghost use Rattle.face.specs.Drawing.{drawing, Room};
+ghost use Rattle.face.specs.Drawing.{Room};
 ghost use Rattle.shapes.specs.Shapes.{onAxis, boxPoint, boxFace};
-ghost use Rattle.shapes.specs.Stages.{sideStages, boxStages, DrewStages, lastOf};
-ghost use Rattle.boxes.specs.Axes.{axisOf};
+ghost use Rattle.shapes.specs.Stages.{boxStages, DrawsStages, DrawsTwo};
+ghost use Rattle.boxes.specs.Axes.{axisOf, sidesOf};
 ghost use Rattle.boxes.specs.Quads.{quadOf};
 use coords::Point;
 use face::Tally;
@@ -113,7 +113,7 @@ fn box_sides(
     is: &mut [u32],
 ) -> Sides
     requires { ⌜ Room before t 8 4 ⌝ }
-    ensures { λ r. ⌜ ((part : ℕ) → DrewStages limit (sideStages (b .origin) (b .turn) (b .length) (b .width) (b .height) (axisOf axis) depth part) before (drawing t (now (vs .entry)) (now (ns .entry)) (now (is .entry))) (drawing (r .against) (now (vs .exit)) (now (ns .exit)) (now (is .exit))) (r .along ∷ r .against ∷ [])) ⌝ }
+    ensures { λ r. ⌜ ((part : ℕ) → DrawsTwo limit (sidesOf b axis depth part) before t (r .along) (r .against) vs ns is) ⌝ }
 {
     let out = direction(b.turn, axis);
     let p = box_face(b, axis, 1.0, out);
@@ -158,7 +158,7 @@ pub fn cuboid(
     is: &mut [u32],
 ) -> [Tally; 6]
     requires { ⌜ Room before t 24 12 ⌝ }
-    ensures { λ r. ⌜ DrewStages limit (boxStages origin turn length width height) before (drawing t (now (vs .entry)) (now (ns .entry)) (now (is .entry))) (drawing (lastOf r) (now (vs .exit)) (now (ns .exit)) (now (is .exit))) r ⌝ }
+    ensures { λ r. ⌜ DrawsStages limit (boxStages origin turn length width height) before t r vs ns is ⌝ }
 {
     let b = Placed {
         origin,

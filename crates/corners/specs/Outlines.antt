@@ -66,3 +66,10 @@ pub record Measured (s : List ℕ) (o : OutlineAt) : Type 0 where
   pub place : o .at ≡ cornersOf (o .i) (o .holes)
   pub all : o .n ≡ o .outer + holeCorners s (o .i) (o .holes)
   pub normal : o .lid ≡ lidNormal (cornersAt s (o .outer) (o .at))
+
+-- all corners of the outline that the code has worked out, and its lid
+abbrev pub allIn : List ℕ → OutlineAt → List Corner
+allIn s o = cornersAt s (o .n) (o .at)
+
+abbrev pub lidIn : List ℕ → OutlineAt → Lid
+lidIn s o = lidAt s (o .i) (o .outer) (o .holes)

@@ -7,9 +7,9 @@ ghost use Rattle.lists.specs.Loops.{list};
 ghost use Rattle.float.specs.Number.{zerof};
 ghost use Rattle.circle.specs.Circle.{sideAngle, sine, cosine};
 ghost use Rattle.object.specs.Object.{frame};
-ghost use Rattle.face.specs.Drawing.{drawing, Drew, Room};
+ghost use Rattle.face.specs.Drawing.{Room, Draws};
 ghost use Rattle.shapes.specs.Shapes.{ringPoint, ringAt, cylinderSide};
-ghost use Rattle.shapes.specs.Stages.{cylinderStages, DrewStages, lastOf};
+ghost use Rattle.shapes.specs.Stages.{cylinderStages, DrawsStages};
 use coords::Point;
 use ends::end;
 use face::Tally;
@@ -61,7 +61,7 @@ fn cylinder_sides(
     is: &mut [u32],
 ) -> Tally
     requires { ⌜ (length (getD rings 0 []) ≡ 16) × (length (getD rings 1 []) ≡ 16) × Room before t 64 32 ⌝ }
-    ensures { λ r. ⌜ Drew limit (list (cylinderSide turn (getD rings 0 []) (getD rings 1 [])) 16 0) before (drawing t (now (vs .entry)) (now (ns .entry)) (now (is .entry))) (drawing r (now (vs .exit)) (now (ns .exit)) (now (is .exit))) ⌝ }
+    ensures { λ r. ⌜ Draws limit (list (cylinderSide turn (getD rings 0 []) (getD rings 1 [])) 16 0) before t r vs ns is ⌝ }
 {
     let mut u = t;
     let mut k: usize = 0;
@@ -101,7 +101,7 @@ pub fn cylinder(
     is: &mut [u32],
 ) -> [Tally; 6]
     requires { ⌜ Room before t 96 60 ⌝ }
-    ensures { λ r. ⌜ DrewStages limit (cylinderStages turn (ringAt origin turn radius zerof) (ringAt origin turn radius height) height) before (drawing t (now (vs .entry)) (now (ns .entry)) (now (is .entry))) (drawing (lastOf r) (now (vs .exit)) (now (ns .exit)) (now (is .exit))) r ⌝ }
+    ensures { λ r. ⌜ DrawsStages limit (cylinderStages turn (ringAt origin turn radius zerof) (ringAt origin turn radius height) height) before t r vs ns is ⌝ }
 {
     let rings = rings_of(origin, turn, radius, height);
     let up = frames::frame(turn, 0.0, 0.0, 1.0);

@@ -1,13 +1,9 @@
 // One object, drawn from its record's place in the scene's bytes.
 ghost use mathlib.Core.Path.{_≡_};
-ghost use mathlib.Core.Bool.{cond};
-ghost use mathlib.Core.List.{List};
-ghost use Prim.Native.Nat.{ℕ, _+_, _*_, _≤_, _<_, _^_};
+ghost use Prim.Native.Nat.{_+_, _*_, _≤_, _<_, _^_};
 ghost use lib.ListN.{length};
-ghost use Rattle.object.specs.Object.{solid, sweep, roundSweep};
-ghost use Rattle.fields.specs.Fields.{pointAt, orientationAt, sectionsAt};
-ghost use Rattle.scene.specs.Headers.{shapeOf};
-ghost use Rattle.shapes.specs.Drawn.{CanDraw, DrewObject};
+ghost use Rattle.scene.specs.Headers.{sectionsShape, shapeOf};
+ghost use Rattle.shapes.specs.Drawn.{CanDraw, DrawsObject, DrawsUnlogged};
 ghost use Rattle.shapes.specs.Stages.{firstOf};
 use face::Tally;
 use object::Extent;
@@ -35,7 +31,7 @@ fn draw_sections(
     is: &mut [u32],
 ) -> Drawn
     requires { ⌜ (at + 48 * n ≤ length (now s)) × (n ≤ 4096) × (3 * before < 2 ^ 32) ⌝ }
-    ensures { λ r. ⌜ ((log : List ℕ) → DrewObject limit (cond round (roundSweep (sectionsAt (now (s .entry)) n at)) (sweep (sectionsAt (now (s .entry)) n at))) before (now (vs .entry)) (now (ns .entry)) (now (is .entry)) log r (now (vs .exit)) (now (ns .exit)) (now (is .exit)) log) ⌝ }
+    ensures { λ r. ⌜ DrawsUnlogged limit (sectionsShape (now (s .entry)) at round n) before r vs ns is ⌝ }
 {
     if round {
         let after = round_sweep(s, at, n, limit, before, NOTHING, vs, ns, is);
@@ -80,7 +76,7 @@ pub fn draw(
     log: &mut [u32],
 ) -> Drawn
     requires { ⌜ CanDraw (now s) i body before ⌝ }
-    ensures { λ r. ⌜ DrewObject limit (shapeOf (now (s .entry)) i body) before (now (vs .entry)) (now (ns .entry)) (now (is .entry)) (now (log .entry)) r (now (vs .exit)) (now (ns .exit)) (now (is .exit)) (now (log .exit)) ⌝ }
+    ensures { λ r. ⌜ DrawsObject limit (shapeOf (now (s .entry)) i body) before r vs ns is log ⌝ }
 {
     match body {
         Body::Solid(extent) => {

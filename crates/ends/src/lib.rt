@@ -3,7 +3,7 @@ ghost use mathlib.Core.Path.{_≡_};
 ghost use mathlib.Core.List.{[], _∷_};
 ghost use Prim.Native.Nat.{ℕ};
 ghost use Rattle.coords.specs.Buffers.{vertexNumbers};
-ghost use Rattle.face.specs.Drawing.{drawing, Drew, Room};
+ghost use Rattle.face.specs.Drawing.{Room, Draws};
 ghost use Rattle.shapes.specs.Shapes.{endFace};
 use coords::Point;
 use face::Tally;
@@ -85,7 +85,7 @@ pub fn end(
     is: &mut [u32],
 ) -> Tally
     requires { ⌜ Room before t 16 14 ⌝ }
-    ensures { λ r. ⌜ ((part : ℕ) → Drew limit (endFace ring out part ∷ []) before (drawing t (now (vs .entry)) (now (ns .entry)) (now (is .entry))) (drawing r (now (vs .exit)) (now (ns .exit)) (now (is .exit)))) ⌝ }
+    ensures { λ r. ⌜ ((part : ℕ) → Draws limit (endFace ring out part ∷ []) before t r vs ns is) ⌝ }
 {
     let numbers = numbers_of(ring);
     let fan = FAN;

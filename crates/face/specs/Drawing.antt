@@ -4,8 +4,10 @@ use Prim.Native.Nat.{ℕ, _+_, _*_, _<_, _^_}
 use mathlib.Core.List.{List}
 use lib.ListN.{length}
 use lib.Seq.{sets}
+use denote.Ref.{now}
 use lib.Ieee.{Float}
 use Rattle.lists.specs.Loops.{sumOf}
+use Rattle.lists.specs.Slices.{Slice}
 use Rattle.vectors.specs.declared.Vector.{Vector}
 use Rattle.coords.specs.Buffers.{vertexNumbers, normalNumbers, verticesIn}
 use Rattle.face.specs.declared.Tally.{Tally}
@@ -42,6 +44,16 @@ drawn limit faces before d =
 -- drawing the faces took the buffers and the counts from d to d′
 pub record Drew (limit : Float) (faces : List Face) (before : ℕ) (d d′ : Drawing) : Type 0 where
   pub after : d′ ≡ drawn limit faces before d
+
+-- The lent slices as a function is called with counts t, and as it returns with counts r; and that it drew the faces into them between.
+abbrev pub entering : Tally → Slice Float → Slice Float → Slice ℕ → Drawing
+entering t vs ns is = drawing t (now (vs .entry)) (now (ns .entry)) (now (is .entry))
+
+abbrev pub leaving : Tally → Slice Float → Slice Float → Slice ℕ → Drawing
+leaving r vs ns is = drawing r (now (vs .exit)) (now (ns .exit)) (now (is .exit))
+
+abbrev pub Draws : Float → List Face → ℕ → Tally → Tally → Slice Float → Slice Float → Slice ℕ → Type 0
+Draws limit faces before t r vs ns is = Drew limit faces before (entering t vs ns is) (leaving r vs ns is)
 
 -- v vertices and k triangles more stay below 2 ^ 32
 pub record Room (before : ℕ) (t : Tally) (v k : ℕ) : Type 0 where

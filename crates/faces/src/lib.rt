@@ -4,12 +4,11 @@ ghost use mathlib.Core.List.{[], _∷_};
 ghost use Prim.Native.Nat.{ℕ, _+_, _<_, _/_, _^_};
 ghost use lib.Dec.{eqb};
 ghost use lib.ListN.{length};
-ghost use Rattle.lists.specs.Each.{Each};
 ghost use Rattle.coords.specs.Buffers.{verticesIn};
-ghost use Rattle.triangles.specs.Triangles.{TriangleLow, trianglesIn};
+ghost use Rattle.offering.specs.Offered.{TrianglesAmong};
 ghost use Rattle.face.specs.Faces.{quad};
-ghost use Rattle.face.specs.Drawing.{drawing, faceIn, Drew, Room};
-ghost use Rattle.faces.specs.Sums.{countedWith, verticesWith, normalsWith};
+ghost use Rattle.face.specs.Drawing.{faceIn, Room, Draws};
+ghost use Rattle.faces.specs.Sums.{countedWith, StoresKept};
 use coords::Point;
 use face::Tally;
 use offering::Sum;
@@ -41,7 +40,7 @@ fn counted_with(t: Tally, s: Sum, n: u32) -> Tally
 // The points of a face whose triangles came to the sum, stored from place at on if one was kept.
 fn store_points(points: &[f32], s: Sum, at: u32, vs: &mut [f32], ns: &mut [f32])
     requires { ⌜ at + length (now points) / 3 < 2 ^ 32 ⌝ }
-    ensures { λ _. ⌜ (now (vs .exit) ≡ verticesWith (eqb (s .kept) 0) (verticesIn (now (points .entry))) at (now (vs .entry))) × (now (ns .exit) ≡ normalsWith (eqb (s .kept) 0) (verticesIn (now (points .entry))) (s .normal) at (now (ns .entry))) ⌝ }
+    ensures { λ _. ⌜ StoresKept (verticesIn (now (points .entry))) s at vs ns ⌝ }
 {
     if s.kept == 0 {
         return;
@@ -63,8 +62,8 @@ pub fn face(
     ns: &mut [f32],
     is: &mut [u32],
 ) -> Tally
-    requires { ⌜ Room before t (length (now points) / 3) (length (now triangles) / 3) × Each (TriangleLow (length (verticesIn (now points)))) (trianglesIn (now triangles)) ⌝ }
-    ensures { λ r. ⌜ ((part : ℕ) → Drew limit (faceIn part (now (points .entry)) (now (triangles .entry)) out ∷ []) before (drawing t (now (vs .entry)) (now (ns .entry)) (now (is .entry))) (drawing r (now (vs .exit)) (now (ns .exit)) (now (is .exit)))) ⌝ }
+    requires { ⌜ Room before t (length (now points) / 3) (length (now triangles) / 3) × TrianglesAmong (now points) (now triangles) ⌝ }
+    ensures { λ r. ⌜ ((part : ℕ) → Draws limit (faceIn part (now (points .entry)) (now (triangles .entry)) out ∷ []) before t r vs ns is) ⌝ }
 {
     let base = before + t.vertices;
     let s = offer_all(points, triangles, out, limit, base, t.kept, is);
@@ -88,7 +87,7 @@ pub fn quad(
     is: &mut [u32],
 ) -> Tally
     requires { ⌜ Room before t 4 2 ⌝ }
-    ensures { λ r. ⌜ ((part : ℕ) → Drew limit (quad part a b c d out ∷ []) before (drawing t (now (vs .entry)) (now (ns .entry)) (now (is .entry))) (drawing r (now (vs .exit)) (now (ns .exit)) (now (is .exit)))) ⌝ }
+    ensures { λ r. ⌜ ((part : ℕ) → Draws limit (quad part a b c d out ∷ []) before t r vs ns is) ⌝ }
 {
     if (vs.len() == 0) & (ns.len() == 0) & (is.len() == 0) {
         let thin = thin_in_quad(a, b, c, d, limit);

@@ -2,7 +2,7 @@
 ghost use Prim.Native.Nat.{_+_, _*_, _≤_};
 ghost use Rattle.lists.specs.Loops.{join, sumOf};
 ghost use Rattle.fields.specs.Fields.{countsAt, holesAt};
-ghost use Rattle.face.specs.Drawing.{drawing, Drew, Room};
+ghost use Rattle.face.specs.Drawing.{Draws, Room};
 ghost use Rattle.shapes.specs.Shapes.{holeWalls};
 ghost use Rattle.corners.specs.Outlines.{CornersIn};
 use face::Tally;
@@ -27,7 +27,7 @@ pub fn hole_walls(
 ) -> Tally
     requires { ⌜ (counts + 2 * holes ≤ at) × CornersIn (now s) at (sumOf (λ k. k) (countsAt (now s) holes counts)) ⌝ }
     requires { ⌜ Room before t (4 * sumOf (λ k. k) (countsAt (now s) holes counts)) (2 * sumOf (λ k. k) (countsAt (now s) holes counts)) ⌝ }
-    ensures { λ r. ⌜ Drew limit (join (holeWalls lid) (holesAt (now (s .entry)) (countsAt (now (s .entry)) holes counts) at)) before (drawing t (now (vs .entry)) (now (ns .entry)) (now (is .entry))) (drawing r (now (vs .exit)) (now (ns .exit)) (now (is .exit))) ⌝ }
+    ensures { λ r. ⌜ Draws limit (join (holeWalls lid) (holesAt (now (s .entry)) (countsAt (now (s .entry)) holes counts) at)) before t r vs ns is ⌝ }
 {
     let mut t = t;
     let mut place = at;

@@ -2,20 +2,18 @@
 // the bases.
 ghost use mathlib.Core.Path.{_≡_};
 ghost use mathlib.Core.Bool.{cond};
-ghost use mathlib.Core.List.{[], _∷_};
 ghost use Prim.Native.Nat.{_+_, _*_, _<_, _≤_, _/_};
 ghost use lib.ListN.{length};
 ghost use lib.Seq.{sets};
 ghost use Rattle.lists.specs.Each.{Each};
 ghost use Rattle.coords.specs.Buffers.{vertexNumbers};
-ghost use Rattle.fields.specs.Fields.{cornersAt};
 ghost use Rattle.face.specs.Faces.{TriangleLow};
 ghost use Rattle.triangles.specs.Triangles.{trianglesIn};
-ghost use Rattle.face.specs.Drawing.{drawing, Room};
-ghost use Rattle.lid.specs.Written.{logWith};
+ghost use Rattle.face.specs.Drawing.{Room};
 ghost use Rattle.shapes.specs.Shapes.{hasHeight};
-ghost use Rattle.shapes.specs.Stages.{lidStages, DrewStages};
-ghost use Rattle.corners.specs.Outlines.{pointsAt, CornersIn, PointsIn, lidAt, Measured};
+ghost use Rattle.shapes.specs.Stages.{DrawsTwo};
+ghost use Rattle.corners.specs.Outlines.{pointsAt, CornersIn, PointsIn, allIn, lidIn, Measured};
+ghost use Rattle.lid_faces.specs.Caps.{capStages, Caps};
 use corners::OutlineAt;
 use face::Tally;
 use geometry::point_at;
@@ -62,9 +60,9 @@ fn lid_faces(
     ns: &mut [f32],
     is: &mut [u32],
 ) -> Lids
-    requires { ⌜ CornersIn (now s) (o .at) (o .n) × (3 * o .n ≤ length (now points)) × (o .high ≡ hasHeight (cornersAt (now s) (o .n) (o .at))) ⌝ }
+    requires { ⌜ CornersIn (now s) (o .at) (o .n) × (3 * o .n ≤ length (now points)) × (o .high ≡ hasHeight (allIn (now s) o)) ⌝ }
     requires { ⌜ Room before t (2 * o .n) (2 * (length (now triangles) / 3)) × Each (TriangleLow (o .n)) (trianglesIn (now triangles)) ⌝ }
-    ensures { λ r. ⌜ DrewStages limit (lidStages (cornersAt (now (s .entry)) (o .n) (o .at)) (o .lid) (trianglesIn (now (triangles .entry)))) before (drawing t (now (vs .entry)) (now (ns .entry)) (now (is .entry))) (drawing (r .floor) (now (vs .exit)) (now (ns .exit)) (now (is .exit))) (r .lid ∷ r .floor ∷ []) ⌝ }
+    ensures { λ r. ⌜ DrawsTwo limit (capStages (now (s .entry)) o (trianglesIn (now (triangles .entry)))) before t (r .lid) (r .floor) vs ns is ⌝ }
 {
     let m = 3 * (o.n as usize);
     put_points(s, o.at + 12, o.n, points);
@@ -114,10 +112,9 @@ fn cap_in(
     is: &mut [u32],
     log: &mut [u32],
 ) -> Capped
-    requires { ⌜ Measured (now s) o × (o .high ≡ hasHeight (cornersAt (now s) (o .n) (o .at))) × Room before t 1024 1224 ⌝ }
-    requires { ⌜ (3 * o .n ≤ length (now room)) × (3 * length (lidAt (now s) (o .i) (o .outer) (o .holes) .triangles) ≤ length (now ts)) ⌝ }
-    ensures { λ r. ⌜ DrewStages limit (lidStages (cornersAt (now (s .entry)) (o .n) (o .at)) (o .lid) (lidAt (now (s .entry)) (o .i) (o .outer) (o .holes) .triangles)) before (drawing t (now (vs .entry)) (now (ns .entry)) (now (is .entry))) (drawing (r .floor) (now (vs .exit)) (now (ns .exit)) (now (is .exit))) (r .lid ∷ r .floor ∷ []) ⌝ }
-    ensures { λ r. ⌜ (r .offered ≡ 2 * o .n + length (lidAt (now (s .entry)) (o .i) (o .outer) (o .holes) .triangles) + cond (o .high) (length (lidAt (now (s .entry)) (o .i) (o .outer) (o .holes) .triangles)) 0) × (r .entries ≡ length (lidAt (now (s .entry)) (o .i) (o .outer) (o .holes) .log)) × (now (log .exit) ≡ logWith (now (log .entry)) 0 (lidAt (now (s .entry)) (o .i) (o .outer) (o .holes) .log)) ⌝ }
+    requires { ⌜ Measured (now s) o × (o .high ≡ hasHeight (allIn (now s) o)) × Room before t 1024 1224 ⌝ }
+    requires { ⌜ (3 * o .n ≤ length (now room)) × (3 * length (lidIn (now s) o .triangles) ≤ length (now ts)) ⌝ }
+    ensures { λ r. ⌜ Caps limit (now (s .entry)) o before t r vs ns is log ⌝ }
 {
     let d = cut(s, o, room, log, ts);
     let c = 3 * (d.triangles as usize);
@@ -145,9 +142,8 @@ pub fn cap(
     is: &mut [u32],
     log: &mut [u32],
 ) -> Capped
-    requires { ⌜ Measured (now s) o × (o .high ≡ hasHeight (cornersAt (now s) (o .n) (o .at))) × Room before t 1024 1224 ⌝ }
-    ensures { λ r. ⌜ DrewStages limit (lidStages (cornersAt (now (s .entry)) (o .n) (o .at)) (o .lid) (lidAt (now (s .entry)) (o .i) (o .outer) (o .holes) .triangles)) before (drawing t (now (vs .entry)) (now (ns .entry)) (now (is .entry))) (drawing (r .floor) (now (vs .exit)) (now (ns .exit)) (now (is .exit))) (r .lid ∷ r .floor ∷ []) ⌝ }
-    ensures { λ r. ⌜ (r .offered ≡ 2 * o .n + length (lidAt (now (s .entry)) (o .i) (o .outer) (o .holes) .triangles) + cond (o .high) (length (lidAt (now (s .entry)) (o .i) (o .outer) (o .holes) .triangles)) 0) × (r .entries ≡ length (lidAt (now (s .entry)) (o .i) (o .outer) (o .holes) .log)) × (now (log .exit) ≡ logWith (now (log .entry)) 0 (lidAt (now (s .entry)) (o .i) (o .outer) (o .holes) .log)) ⌝ }
+    requires { ⌜ Measured (now s) o × (o .high ≡ hasHeight (allIn (now s) o)) × Room before t 1024 1224 ⌝ }
+    ensures { λ r. ⌜ Caps limit (now (s .entry)) o before t r vs ns is log ⌝ }
 {
     if (o.n as usize) + 3 * o.holes <= 32 {
         let mut room = [0.0; 96];

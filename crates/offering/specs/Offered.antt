@@ -1,21 +1,26 @@
 -- The loop of `face` over its triangles, one at a time: what is counted and added up, and the indices that are written as it goes. For the contracts of this
 -- crate's functions; face/proofs/Offers.antt shows that it comes to what face/specs/Faces.antt says of the whole list. Definitions only.
-use Prim.Native.Nat.{ℕ, _+_, _*_}
+use mathlib.Core.Path.{_≡_}
+use Prim.Native.Nat.{ℕ, _+_, _*_, _/_, _<_, _^_}
 use mathlib.Core.Bool.{cond}
 use mathlib.Core.List.{List, [], _∷_}
-use lib.ListN.{getD}
+use lib.ListN.{length, getD}
 use lib.Seq.{sets}
+use denote.Ref.{now}
 use lib.Ieee.{Float, lt}
+use Rattle.lists.specs.Each.{Each}
 use Rattle.lists.specs.Loops.{fold}
+use Rattle.lists.specs.Slices.{Slice}
 use Rattle.float.specs.Number.{zerof}
 use Rattle.coords.specs.declared.Point.{Point}
 use Rattle.vectors.specs.declared.Vector.{Vector}
 use Rattle.vectors.specs.Vectors.{zeroV, plus, less, dot, cross, norm}
 use Rattle.coords.specs.Coords.{origin, diff}
+use Rattle.coords.specs.Buffers.{verticesIn}
 use Rattle.offering.specs.declared.Side.{Side}
 use Rattle.offering.specs.declared.Side.the-variants.{Thin, Front, Back}
 use Rattle.offering.specs.declared.Sum.{Sum}
-use Rattle.triangles.specs.Triangles.{Triangle}
+use Rattle.triangles.specs.Triangles.{Triangle, triangle, TriangleLow, triangleAt, trianglesIn}
 
 -- ---- one triangle
 
@@ -63,3 +68,26 @@ offerOne limit ps out base n o t =
 
 unfoldable pub offerAll : Float → List Point → Vector → ℕ → ℕ → List ℕ → List Triangle → Offered
 offerAll limit ps out base n is ts = fold (offerOne limit ps out base n) (offered noSum is) ts
+
+-- the two triangles of a face of four points, from the first
+abbrev pub quadTriangles : List Triangle
+quadTriangles = triangle 0 1 2 ∷ triangle 0 2 3 ∷ []
+
+-- ---- of lent slices
+
+-- the corners of the lent triangles are numbers of the lent points
+abbrev pub TrianglesAmong : List Float → List ℕ → Type 0
+TrianglesAmong points triangles = Each (TriangleLow (length (verticesIn points))) (trianglesIn triangles)
+
+-- triangle number j is one of those lent and can be offered: its corners are among the lent points, and what is counted and written stays below 2 ^ 32
+abbrev pub CanOffer : List Float → List ℕ → ℕ → ℕ → ℕ → Sum → Type 0
+CanOffer points triangles j base n s =
+    (j < length triangles / 3) × TriangleLow (length points / 3) (triangleAt triangles j) × (base + length points / 3 < 2 ^ 32)
+    × (n + s .kept + 1 < 2 ^ 32) × (s .thin + 1 < 2 ^ 32)
+
+-- the triangle was offered, its indices written to the lent slice and the sum s became r; and all of them, from no sum on
+abbrev pub OffersOne : Float → List Point → Vector → ℕ → ℕ → Triangle → Sum → Sum → Slice ℕ → Type 0
+OffersOne limit ps out base n t s r is = offered r (now (is .exit)) ≡ offerOne limit ps out base n (offered s (now (is .entry))) t
+
+abbrev pub OffersAll : Float → List Point → Vector → ℕ → ℕ → List Triangle → Sum → Slice ℕ → Type 0
+OffersAll limit ps out base n ts r is = offered r (now (is .exit)) ≡ offerAll limit ps out base n (now (is .entry)) ts

@@ -5,10 +5,9 @@ ghost use mathlib.Core.List.{[], _∷_};
 ghost use Prim.Native.Nat.{_+_, _*_, _<_, _/_, _^_};
 ghost use lib.ListN.{length};
 ghost use lib.Seq.{sets};
-ghost use Rattle.lists.specs.Each.{Each};
 ghost use Rattle.coords.specs.Buffers.{verticesIn};
 ghost use Rattle.triangles.specs.Triangles.{triangle, TriangleLow, triangleAt, trianglesIn};
-ghost use Rattle.offering.specs.Offered.{sideOf, sideIn, cornersOf, gathered, offered, offerOne, offerAll};
+ghost use Rattle.offering.specs.Offered.{sideOf, sideIn, cornersOf, gathered, quadTriangles, TrianglesAmong, CanOffer, OffersOne, OffersAll};
 use coords::Point;
 use vectors::Vector;
 
@@ -84,7 +83,7 @@ pub fn offer_quad(
     is: &mut [u32],
 ) -> Sum
     requires { ⌜ (base + 3 < 2 ^ 32) × (n + 1 < 2 ^ 32) ⌝ }
-    ensures { λ r. ⌜ offered r (now (is .exit)) ≡ offerAll limit (a ∷ b ∷ c ∷ d ∷ []) out base n (now (is .entry)) (triangle 0 1 2 ∷ triangle 0 2 3 ∷ []) ⌝ }
+    ensures { λ r. ⌜ OffersAll limit (a ∷ b ∷ c ∷ d ∷ []) out base n quadTriangles r is ⌝ }
 {
     let none = Sum {
         normal: Vector::ZERO,
@@ -138,8 +137,8 @@ fn offer_at(
     n: u32,
     is: &mut [u32],
 ) -> Sum
-    requires { ⌜ (j < length (now triangles) / 3) × TriangleLow (length (now points) / 3) (triangleAt (now triangles) j) × (base + length (now points) / 3 < 2 ^ 32) × (n + s .kept + 1 < 2 ^ 32) × (s .thin + 1 < 2 ^ 32) ⌝ }
-    ensures { λ r. ⌜ offered r (now (is .exit)) ≡ offerOne limit (verticesIn (now (points .entry))) out base n (offered s (now (is .entry))) (triangleAt (now (triangles .entry)) j) ⌝ }
+    requires { ⌜ CanOffer (now points) (now triangles) j base n s ⌝ }
+    ensures { λ r. ⌜ OffersOne limit (verticesIn (now (points .entry))) out base n (triangleAt (now (triangles .entry)) j) s r is ⌝ }
 {
     let i = 3 * j;
     let a = triangles[i];
@@ -159,8 +158,8 @@ pub fn offer_all(
     n: u32,
     is: &mut [u32],
 ) -> Sum
-    requires { ⌜ (base + length (now points) / 3 < 2 ^ 32) × (n + length (now triangles) / 3 < 2 ^ 32) × Each (TriangleLow (length (verticesIn (now points)))) (trianglesIn (now triangles)) ⌝ }
-    ensures { λ r. ⌜ offered r (now (is .exit)) ≡ offerAll limit (verticesIn (now (points .entry))) out base n (now (is .entry)) (trianglesIn (now (triangles .entry))) ⌝ }
+    requires { ⌜ (base + length (now points) / 3 < 2 ^ 32) × (n + length (now triangles) / 3 < 2 ^ 32) × TrianglesAmong (now points) (now triangles) ⌝ }
+    ensures { λ r. ⌜ OffersAll limit (verticesIn (now (points .entry))) out base n (trianglesIn (now (triangles .entry))) r is ⌝ }
 {
     let m = triangles.len() / 3;
     let mut s = Sum {

@@ -1,5 +1,5 @@
 -- The faces and the price of an outline from what its parts come to. Assumes nothing.
-use mathlib.Core.Path.{_≡_, refl, sym, ap, ap₂, subst, subst₂, _∙_}
+use mathlib.Core.Path.{_≡_, refl, sym, ap, ap₂, subst, _∙_}
 use mathlib.Core.Bool.{Bool, true, false, cond, true≢false, false≢true}
 use Prim.Native.Nat.{ℕ, _+_, _-_, _*_, _≤_, _<_, _^_}
 use native.Mathlib.Omega.{arith}
@@ -20,19 +20,20 @@ use Rattle.face.specs.Drawing.{Drawing, tally, drawing, Drew, Room}
 use Rattle.face.proofs.Counts.{count}
 use Rattle.face.proofs.Draws.{drew-room}
 use Rattle.flattening.specs.Plane.{lidNormal, about}
-use Rattle.lid.specs.Lid.{Lid, lidPrice}
+use Rattle.lid.specs.Lid.{lidPrice}
 use Rattle.lid.specs.Log.{logNumbers}
-use Rattle.lid.specs.Written.{logWith}
 use Rattle.lid.proofs.Facts.{total, lid-triangles}
 use Rattle.shapes.specs.Shapes.{walls, outerWalls, holeWalls, allCorners, flatOf, outlineLid, hasHeight, logOf}
-use Rattle.shapes.specs.Stages.{fourStages, lidFace, floorFaces, lidStages, outlineStages, stagesOf, DrewStages}
+use Rattle.shapes.specs.Stages.{fourStages, lidFace, floorFaces, outlineStages, stagesOf, DrewStages}
 use Rattle.shapes.proofs.Stages.{stages-walls, stages-lidded}
 use Rattle.shapes.specs.declared.Drawn.{Drawn}
 use Rattle.shapes.specs.Drawn.{CanDraw, DrewObject}
 use Rattle.shapes.specs.Price.{offered, outlinePrice}
 use Rattle.corners.specs.declared.OutlineAt.{OutlineAt}
 use Rattle.corners.specs.Outlines.{cornersOf, holeCorners, outlineShape, lidAt, Placed, Measured}
-use Rattle.outlines.specs.Measures.{outlineIn}
+use Rattle.lid_faces.specs.declared.Capped.{Capped}
+use Rattle.lid_faces.specs.Caps.{DrewCap}
+use Rattle.outlines.specs.Measures.{outlineIn, wallsIn}
 use Rattle.shapes.proofs.Sizes.{sum-lengths, outer-points, holes-points}
 use Rattle.shapes.proofs.Prices.{walls-count, holes-count}
 use Rattle.lid_cuts.proofs.FlatLaws.{all-corners}
@@ -60,8 +61,8 @@ outer-drew {limit} {before} {d = d} {d′ = d′} false s n at lid p q =
 abbrev openDrawn : Tally → ℕ → Drawn
 openDrawn t price = record { first = 1; after = t ∷ t ∷ t ∷ t ∷ t ∷ t ∷ []; offered = price; entries = 0 }
 
-abbrev closedDrawn : Tally → Tally → Tally → ℕ → ℕ → Drawn
-closedDrawn t a b price entries = record { first = 1; after = t ∷ a ∷ b ∷ b ∷ b ∷ b ∷ []; offered = price; entries = entries }
+abbrev closedDrawn : Tally → Capped → Drawn
+closedDrawn t r = record { first = 1; after = t ∷ r .lid ∷ r .floor ∷ r .floor ∷ r .floor ∷ r .floor ∷ []; offered = r .offered; entries = r .entries }
 
 module _ (s : List ℕ) (i outer holes : ℕ) where
   abbrev pub outerCorners : List Corner
@@ -100,12 +101,12 @@ module _ (s : List ℕ) (i outer holes : ℕ) where
       omega (arith, p, g, corners-all)
 
   -- an open outline, drawn
-  module _ {limit : Float} {before : ℕ} {vs ns : List Float} {is : List ℕ} {lid : Vector} {n : ℕ} where
-    open-object : (closed : Bool) {ls : List ℕ} {t : Tally} {price : ℕ} {vs′ ns′ : List Float} {is′ : List ℕ} → closed ≡ false → lid ≡ lidNormal outerCorners → n ≡ outer + holeCorners s i holes
+  module _ {limit : Float} {before : ℕ} {vs ns : List Float} {is : List ℕ} where
+    open-object : (closed : Bool) {lid : Vector} {n : ℕ} {ls : List ℕ} {t : Tally} {price : ℕ} {vs′ ns′ : List Float} {is′ : List ℕ} → closed ≡ false → lid ≡ lidNormal outerCorners → n ≡ outer + holeCorners s i holes
         → Drew limit (wallsOf closed lid) before (drawing (tally 0 0 0) vs ns is) (drawing t vs′ ns′ is′) → price ≡ 2 * (outer - 1) + 2 * (n - outer)
         → DrewObject limit (outlineShape s i closed outer holes) before vs ns is ls (openDrawn t price) vs′ ns′ is′ ls
     unfolding stagesOf outlineStages offered outlinePrice logOf logNumbers join
-    open-object false {ls} {t} {price} {vs′} {ns′} {is′} c l e drew priced = record {
+    open-object false c l e drew priced = record {
       first = refl;
       drew = rw l at (stages-walls limit drew);
       offered = omega (arith, priced, e, corners-length s outer (cornersOf i holes), corners-all);
@@ -114,35 +115,28 @@ module _ (s : List ℕ) (i outer holes : ℕ) where
     }
     open-object true c l e drew priced = absurd (true≢false c)
 
-    -- a closed one, whose walls leave the drawing at d
-    closed-object : (closed : Bool) {high : Bool} {triangles : ℕ} {ls : List ℕ} {d : Drawing} {a b : Tally} {price entries : ℕ} {vs′ ns′ : List Float} {is′ ls′ : List ℕ} → closed ≡ true → lid ≡ lidNormal outerCorners
-        → n ≡ outer + holeCorners s i holes → high ≡ hasHeight (cornersAt s n (cornersOf i holes)) → Drew limit (wallsOf closed lid) before (drawing (tally 0 0 0) vs ns is) d
-        → DrewStages limit (lidStages (cornersAt s n (cornersOf i holes)) lid (lidAt s i outer holes .triangles)) before d (drawing b vs′ ns′ is′) (a ∷ b ∷ [])
-        → triangles ≡ length (lidAt s i outer holes .triangles) → price ≡ 2 * n + triangles + cond high triangles 0
-        → entries ≡ length (lidAt s i outer holes .log) → ls′ ≡ logWith ls 0 (lidAt s i outer holes .log)
-        → DrewObject limit (outlineShape s i closed outer holes) before vs ns is ls (closedDrawn (d .tally) a b price entries) vs′ ns′ is′ ls′
+    -- a closed one, as the code has worked it out; its walls leave the drawing at d
+    closed-object : (closed : Bool) {ls : List ℕ} {d : Drawing} {r : Capped} {vs′ ns′ : List Float} {is′ ls′ : List ℕ} → closed ≡ true
+        → Drew limit (wallsOf closed (lidNormal outerCorners)) before (drawing (tally 0 0 0) vs ns is) d
+        → DrewCap limit s (outlineIn s i closed outer holes) before d (drawing (r .floor) vs′ ns′ is′) ls ls′ r
+        → DrewObject limit (outlineShape s i closed outer holes) before vs ns is ls (closedDrawn (d .tally) r) vs′ ns′ is′ ls′
     unfolding stagesOf outlineStages logOf
-    closed-object true {high} {triangles} {ls} {d} {a} {b} {vs′ = vs′} {ns′} {is′} c l e h sides lids k price entries log = record {
-      first = refl;
-      drew =
-          subst₂ (λ (v : Vector) (cs : List Corner). DrewStages limit (fourStages (wallsOf true v) (lidFace cs v (lidAt s i outer holes .triangles) ∷ []) (floorFaces cs v (lidAt s i outer holes .triangles)) []) before (drawing (tally 0 0 0) vs ns is) (drawing b vs′ ns′ is′) (d .tally ∷ a ∷ b ∷ b ∷ b ∷ b ∷ []))
-          l (all e) (stages-lidded limit (cornersAt s n (cornersOf i holes)) lid (lidAt s i outer holes .triangles) sides lids);
-      offered = price ∙ ap (λ (m : ℕ). 2 * m + triangles + cond high triangles 0) e ∙ closed-offered high triangles (h ∙ ap (λ (m : ℕ). hasHeight (cornersAt s m (cornersOf i holes))) e) k;
-      entries = entries;
-      log = log;
-    }
-      where
-        all : n ≡ outer + holeCorners s i holes → cornersAt s n (cornersOf i holes) ≡ allCorners outerCorners holesOf
-        all e = ap (λ (m : ℕ). cornersAt s m (cornersOf i holes)) e ∙ sym (all-corners s i outer holes)
-    closed-object false c l e h sides lids k price entries log = absurd (false≢true c)
+    closed-object true {d = d} {r} {vs′} {ns′} {is′} c sides cap =
+        let lid = lidNormal outerCorners in
+        let told = cornersAt s (outer + holeCorners s i holes) (cornersOf i holes) in
+        let ts = lidAt s i outer holes .triangles in
+        record {
+          first = refl;
+          drew =
+              subst (λ (cs : List Corner). DrewStages limit (fourStages (wallsOf true lid) (lidFace cs lid ts ∷ []) (floorFaces cs lid ts) []) before (drawing (tally 0 0 0) vs ns is) (drawing (r .floor) vs′ ns′ is′) (closedDrawn (d .tally) r .after))
+              (sym (all-corners s i outer holes)) (stages-lidded limit told lid ts sides (cap .drew));
+          offered = cap .offered ∙ closed-offered (hasHeight told) (length ts) refl refl;
+          entries = cap .entries;
+          log = cap .log;
+        }
+    closed-object false c sides cap = absurd (false≢true c)
 
 -- ---- the outline that the code has measured
-
-abbrev WallsDrew : List ℕ → Bool → OutlineAt → Float → ℕ → Drawing → Drawing → Type 0
-WallsDrew s closed o limit before d d′ = Drew limit (outerWalls closed (cornersAt s (o .outer) (o .at)) (o .lid) ++ join (holeWalls (o .lid)) (holesAt s (countsAt s (o .holes) (o .i + 4)) (o .at + 24 * o .outer))) before d d′
-
-abbrev lidIn : List ℕ → OutlineAt → Lid
-lidIn s o = lidAt s (o .i) (o .outer) (o .holes)
 
 pub made : (s : List ℕ) (i : ℕ) (closed : Bool) (outer holes n : ℕ) (lid : Vector) (high : Bool) → n ≡ outer + holeCorners s i holes → lid ≡ lidNormal (cornersAt s outer (cornersOf i holes))
     → high ≡ cond closed (hasHeight (cornersAt s n (cornersOf i holes))) false
@@ -167,30 +161,26 @@ module _ (s : List ℕ) (i : ℕ) (closed : Bool) (outer holes : ℕ) {o : Outli
       (ap (λ (b : Bool). cond b (hasHeight (cornersAt s (outer + holeCorners s i holes) (cornersOf i holes))) false) c)
 
   pub room-in : {limit : Float} {before : ℕ} {vs ns : List Float} {is : List ℕ} {d : Drawing} → 3 * before < 2 ^ 32 → Placed s i outer holes
-      → WallsDrew s closed o limit before (drawing (tally 0 0 0) vs ns is) d → Room before (d .tally) 1024 1224
+      → Drew limit (wallsIn s closed o) before (drawing (tally 0 0 0) vs ns is) d → Room before (d .tally) 1024 1224
   room-in {limit} {before} {vs} {ns} {is} {d} h placed p =
-      lid-room s i outer holes closed _ h placed (subst (λ (o : OutlineAt). WallsDrew s closed o limit before (drawing (tally 0 0 0) vs ns is) d) e p)
+      lid-room s i outer holes closed _ h placed (subst (λ (o : OutlineAt). Drew limit (wallsIn s closed o) before (drawing (tally 0 0 0) vs ns is) d) e p)
 
   module _ {limit : Float} {before : ℕ} {vs ns : List Float} {is : List ℕ} where
     pub open-in : {ls : List ℕ} {t : Tally} {price : ℕ} {vs′ ns′ : List Float} {is′ : List ℕ} → closed ≡ false
-        → WallsDrew s closed o limit before (drawing (tally 0 0 0) vs ns is) (drawing t vs′ ns′ is′) → price ≡ 2 * (o .outer - 1) + 2 * (o .n - o .outer)
+        → Drew limit (wallsIn s closed o) before (drawing (tally 0 0 0) vs ns is) (drawing t vs′ ns′ is′) → price ≡ 2 * (o .outer - 1) + 2 * (o .n - o .outer)
         → DrewObject limit (outlineShape s i closed outer holes) before vs ns is ls (openDrawn t price) vs′ ns′ is′ ls
     open-in {ls} {t} {price} {vs′} {ns′} {is′} c sides priced =
-        subst (λ (o : OutlineAt). WallsDrew s closed o limit before (drawing (tally 0 0 0) vs ns is) (drawing t vs′ ns′ is′) → price ≡ 2 * (o .outer - 1) + 2 * (o .n - o .outer)
+        subst (λ (o : OutlineAt). Drew limit (wallsIn s closed o) before (drawing (tally 0 0 0) vs ns is) (drawing t vs′ ns′ is′) → price ≡ 2 * (o .outer - 1) + 2 * (o .n - o .outer)
         → DrewObject limit (outlineShape s i closed outer holes) before vs ns is ls (openDrawn t price) vs′ ns′ is′ ls) (sym e)
         (λ drew offered. open-object s i outer holes closed c refl refl drew offered) sides priced
 
-    pub closed-in : {ls : List ℕ} {d : Drawing} {a b : Tally} {price entries : ℕ} {vs′ ns′ : List Float} {is′ ls′ : List ℕ} → closed ≡ true → WallsDrew s closed o limit before (drawing (tally 0 0 0) vs ns is) d
-        → DrewStages limit (lidStages (cornersAt s (o .n) (o .at)) (o .lid) (lidIn s o .triangles)) before d (drawing b vs′ ns′ is′) (a ∷ b ∷ [])
-        → (price ≡ 2 * o .n + length (lidIn s o .triangles) + cond (o .high) (length (lidIn s o .triangles)) 0) × (entries ≡ length (lidIn s o .log)) × (ls′ ≡ logWith ls 0 (lidIn s o .log))
-        → DrewObject limit (outlineShape s i closed outer holes) before vs ns is ls (closedDrawn (d .tally) a b price entries) vs′ ns′ is′ ls′
-    closed-in {ls} {d} {a} {b} {price} {entries} {vs′} {ns′} {is′} {ls′} c sides lids told =
-        subst (λ (o : OutlineAt). WallsDrew s closed o limit before (drawing (tally 0 0 0) vs ns is) d
-        → DrewStages limit (lidStages (cornersAt s (o .n) (o .at)) (o .lid) (lidIn s o .triangles)) before d (drawing b vs′ ns′ is′) (a ∷ b ∷ [])
-        → (price ≡ 2 * o .n + length (lidIn s o .triangles) + cond (o .high) (length (lidIn s o .triangles)) 0) × (entries ≡ length (lidIn s o .log)) × (ls′ ≡ logWith ls 0 (lidIn s o .log))
-        → DrewObject limit (outlineShape s i closed outer holes) before vs ns is ls (closedDrawn (d .tally) a b price entries) vs′ ns′ is′ ls′) (sym e)
-        (λ sides lids told. closed-object s i outer holes closed c refl refl (ap (λ (b : Bool). cond b (hasHeight (cornersAt s (outer + holeCorners s i holes) (cornersOf i holes))) false) c) sides lids refl (told .0) (told .1) (told .2))
-        sides lids told
+    pub closed-in : {ls : List ℕ} {d : Drawing} {r : Capped} {vs′ ns′ : List Float} {is′ ls′ : List ℕ} → closed ≡ true
+        → Drew limit (wallsIn s closed o) before (drawing (tally 0 0 0) vs ns is) d → DrewCap limit s o before d (drawing (r .floor) vs′ ns′ is′) ls ls′ r
+        → DrewObject limit (outlineShape s i closed outer holes) before vs ns is ls (closedDrawn (d .tally) r) vs′ ns′ is′ ls′
+    closed-in {ls} {d} {r} {vs′} {ns′} {is′} {ls′} c sides cap =
+        subst (λ (o : OutlineAt). Drew limit (wallsIn s closed o) before (drawing (tally 0 0 0) vs ns is) d → DrewCap limit s o before d (drawing (r .floor) vs′ ns′ is′) ls ls′ r
+        → DrewObject limit (outlineShape s i closed outer holes) before vs ns is ls (closedDrawn (d .tally) r) vs′ ns′ is′ ls′) (sym e)
+        (λ sides cap. closed-object s i outer holes closed c sides cap) sides cap
 
 -- an outline that can be drawn is within the limits, at small places
 pub can-place : (s : List ℕ) (i before : ℕ) (closed : Bool) (outer holes : ℕ) → CanDraw s i (Outline closed outer holes) before → Placed s i outer holes

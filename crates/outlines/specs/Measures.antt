@@ -1,10 +1,12 @@
--- What the code works out of an outline before it draws. Definitions only.
+-- What the code works out of an outline before it draws, and its walls. Definitions only.
 use mathlib.Core.Bool.{Bool, false, cond}
-use Prim.Native.Nat.{ℕ, _+_}
-use mathlib.Core.List.{List}
-use Rattle.fields.specs.Fields.{cornersAt}
+use Prim.Native.Nat.{ℕ, _+_, _*_}
+use mathlib.Core.List.{List, _++_}
+use Rattle.lists.specs.Loops.{join}
+use Rattle.fields.specs.Fields.{cornersAt, countsAt, holesAt}
+use Rattle.face.specs.Faces.{Face}
 use Rattle.flattening.specs.Plane.{lidNormal}
-use Rattle.shapes.specs.Shapes.{hasHeight}
+use Rattle.shapes.specs.Shapes.{outerWalls, holeWalls, hasHeight}
 use Rattle.corners.specs.declared.OutlineAt.{OutlineAt}
 use Rattle.corners.specs.Outlines.{cornersOf, holeCorners}
 
@@ -19,3 +21,9 @@ outlineIn s i closed outer holes = record {
   lid = lidNormal (cornersAt s outer (cornersOf i holes));
   high = cond closed (hasHeight (cornersAt s (outer + holeCorners s i holes) (cornersOf i holes))) false;
 }
+
+-- the walls of an outline so worked out: the outer ones, then the holes'
+abbrev pub wallsIn : List ℕ → Bool → OutlineAt → List Face
+wallsIn s closed o =
+    outerWalls closed (cornersAt s (o .outer) (o .at)) (o .lid)
+    ++ join (holeWalls (o .lid)) (holesAt s (countsAt s (o .holes) (o .i + 4)) (o .at + 24 * o .outer))

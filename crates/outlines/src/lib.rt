@@ -1,17 +1,14 @@
 // Outlines, `outline` of object_mesh.rs, with their price.
 ghost use mathlib.Core.Path.{_≡_};
 ghost use mathlib.Core.Bool.{cond};
-ghost use mathlib.Core.List.{_++_};
 ghost use Prim.Native.Nat.{_+_, _-_, _*_, _≤_, _<_, _^_};
-ghost use Rattle.lists.specs.Loops.{join};
 ghost use Rattle.vectors.specs.Vectors.{zeroV};
-ghost use Rattle.fields.specs.Fields.{cornersAt, countsAt, holesAt};
-ghost use Rattle.face.specs.Drawing.{tally, drawing, Drew, Room};
+ghost use Rattle.fields.specs.Fields.{cornersAt};
+ghost use Rattle.face.specs.Drawing.{tally, Draws};
 ghost use Rattle.flattening.specs.Plane.{about};
-ghost use Rattle.shapes.specs.Shapes.{outerWalls, holeWalls};
-ghost use Rattle.shapes.specs.Drawn.{DrewObject};
+ghost use Rattle.shapes.specs.Drawn.{DrawsObject};
 ghost use Rattle.corners.specs.Outlines.{CornersIn, outlineShape, Placed, Measured};
-ghost use Rattle.outlines.specs.Measures.{outlineIn};
+ghost use Rattle.outlines.specs.Measures.{outlineIn, wallsIn};
 use corners::OutlineAt;
 use corners::has_height;
 use face::Tally;
@@ -66,7 +63,7 @@ fn all_walls(
     is: &mut [u32],
 ) -> Tally
     requires { ⌜ Measured (now s) o × (3 * before < 2 ^ 32) ⌝ }
-    ensures { λ r. ⌜ Drew limit (outerWalls closed (cornersAt (now (s .entry)) (o .outer) (o .at)) (o .lid) ++ join (holeWalls (o .lid)) (holesAt (now (s .entry)) (countsAt (now (s .entry)) (o .holes) (o .i + 4)) (o .at + 24 * o .outer))) before (drawing (tally 0 0 0) (now (vs .entry)) (now (ns .entry)) (now (is .entry))) (drawing r (now (vs .exit)) (now (ns .exit)) (now (is .exit))) ⌝ }
+    ensures { λ r. ⌜ Draws limit (wallsIn (now (s .entry)) closed o) before (tally 0 0 0) r vs ns is ⌝ }
 {
     let n = o.outer as usize;
     let normal = square_to(s, o.at, n, closed, o.lid);
@@ -147,7 +144,7 @@ pub fn outline(
     log: &mut [u32],
 ) -> Drawn
     requires { ⌜ Placed (now s) i outer holes × (3 * before < 2 ^ 32) ⌝ }
-    ensures { λ r. ⌜ DrewObject limit (outlineShape (now (s .entry)) i closed outer holes) before (now (vs .entry)) (now (ns .entry)) (now (is .entry)) (now (log .entry)) r (now (vs .exit)) (now (ns .exit)) (now (is .exit)) (now (log .exit)) ⌝ }
+    ensures { λ r. ⌜ DrawsObject limit (outlineShape (now (s .entry)) i closed outer holes) before r vs ns is log ⌝ }
 {
     let o = outline_at(s, i, closed, outer, holes);
     let t = all_walls(s, o, closed, limit, before, vs, ns, is);

@@ -8,8 +8,8 @@ ghost use lib.ListN.{length};
 ghost use Rattle.object.specs.declared.Extent.{Extent};
 ghost use Rattle.object.specs.declared.Section.{Section};
 ghost use Rattle.object.specs.Object.{Shape, Object};
-ghost use Rattle.fields.specs.Fields.{countsAt, all32};
-ghost use Rattle.scene.specs.Scene.{rest, solidAt, outlineCorners, outlineAt, sweepAt, kindAt, recordAt};
+ghost use Rattle.fields.specs.Fields.{all32};
+ghost use Rattle.scene.specs.Scene.{rest, solidAt, outlineOf, outlineAt, sweepAt, kindAt, recordAt};
 ghost use Rattle.scene.specs.Answers.{endOf};
 use allowed::all_allowed32;
 use allowed::orientation_allowed;
@@ -54,7 +54,7 @@ fn check_numbers(s: &[u8], e: usize, i: usize, n: usize) -> RecordEnd
 // An outline whose counts, at i, are read but for those of its holes.
 fn check_corners(s: &[u8], e: usize, i: usize, outer: u16, holes: u16) -> RecordEnd
     requires { ⌜ (i + 4 + 2 * holes ≤ e) × (e ≤ length (now s)) × (holes ≤ 32) ⌝ }
-    ensures { λ r. ⌜ ((id : ℕ) (closed : Bool) → r ≡ endOf (outlineCorners (now (s .entry)) e id closed outer (countsAt (now (s .entry)) holes (i + 4)) (i + 4 + 2 * holes))) ⌝ }
+    ensures { λ r. ⌜ ((id : ℕ) (closed : Bool) → r ≡ endOf (outlineOf (now (s .entry)) e id closed outer holes i)) ⌝ }
 {
     let n = (outer as usize) + sum_counts(s, holes, i + 4);
     if 512 < n {

@@ -4,7 +4,7 @@ ghost use Prim.Native.Nat.{_<_};
 ghost use Rattle.lists.specs.Loops.{list};
 ghost use Rattle.vectors.specs.Vectors.{plus};
 ghost use Rattle.coords.specs.Coords.{diff};
-ghost use Rattle.face.specs.Drawing.{drawing, Drew, Room};
+ghost use Rattle.face.specs.Drawing.{Room, Draws};
 ghost use Rattle.shapes.specs.Shapes.{ellipsePoint, ellipse, tubeFaces};
 ghost use Rattle.round_sweeps.specs.Rings.{ringAbout};
 use coords::Point;
@@ -71,7 +71,7 @@ pub fn tube(
     is: &mut [u32],
 ) -> Tally
     requires { ⌜ Room before t 64 32 ⌝ }
-    ensures { λ r. ⌜ Drew limit (tubeFaces (ringAbout ca a) (ringAbout cb b)) before (drawing t (now (vs .entry)) (now (ns .entry)) (now (is .entry))) (drawing r (now (vs .exit)) (now (ns .exit)) (now (is .exit))) ⌝ }
+    ensures { λ r. ⌜ Draws limit (tubeFaces (ringAbout ca a) (ringAbout cb b)) before t r vs ns is ⌝ }
 {
     let mut u = t;
     let mut k: usize = 0;

@@ -6,10 +6,10 @@ mod ellipses;
 ghost use mathlib.Core.Path.{_≡_};
 ghost use Prim.Native.Nat.{_+_, _*_, _≤_};
 ghost use lib.ListN.{length};
-ghost use Rattle.face.specs.Drawing.{drawing, Room};
+ghost use Rattle.face.specs.Drawing.{Room};
 ghost use Rattle.fields.specs.Fields.{sectionAt, sectionsAt};
 ghost use Rattle.shapes.specs.Shapes.{ellipse};
-ghost use Rattle.shapes.specs.Stages.{roundStages, DrewStages, lastOf};
+ghost use Rattle.shapes.specs.Stages.{roundStages, DrawsStages};
 use crate::ellipses::centre;
 use crate::ellipses::ellipse;
 use crate::ellipses::tube;
@@ -39,7 +39,7 @@ pub fn round_sweep(
     is: &mut [u32],
 ) -> [Tally; 6]
     requires { ⌜ (at + 48 * n ≤ length (now s)) × Room before t (64 * n) (32 * n) ⌝ }
-    ensures { λ r. ⌜ DrewStages limit (roundStages (sectionsAt (now (s .entry)) n at)) before (drawing t (now (vs .entry)) (now (ns .entry)) (now (is .entry))) (drawing (lastOf r) (now (vs .exit)) (now (ns .exit)) (now (is .exit))) r ⌝ }
+    ensures { λ r. ⌜ DrawsStages limit (roundStages (sectionsAt (now (s .entry)) n at)) before t r vs ns is ⌝ }
 {
     if n == 0 {
         return [t; 6];

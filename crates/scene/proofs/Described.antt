@@ -16,7 +16,7 @@ use Rattle.rows.specs.declared.Refusal.the-variants.{Past, Kind, Counts, Number
 use Rattle.scene.specs.declared.headers.Body.{Body}
 use Rattle.scene.specs.declared.headers.Body.the-variants.{Solid, Outline, Sweep}
 use Rattle.fields.specs.Fields.{u16At, u32At, f32At, countsAt, all32}
-use Rattle.scene.specs.Scene.{Record, bad, good, rest, solidAt, outlineCorners, outlineAt, sweepAt, kindAt, recordAt}
+use Rattle.scene.specs.Scene.{Record, bad, good, rest, solidAt, outlineCorners, outlineOf, outlineAt, sweepAt, kindAt, recordAt}
 use Rattle.scene.specs.Headers.{volumeSize, bodySize, bodyAt, shapeOf, objectOf, headerAt, Limits}
 
 -- what holds on both sides of a test that is made twice holds of its outcomes
@@ -43,7 +43,7 @@ module _ (s : List ℕ) (e : ℕ) where
   unfolding solidAt
   solid-described id i w x q = rest-described id i i (60 + 4 * w) _ (Solid x) (ap (λ (n : ℕ). i + (60 + n)) q) tt
 
-  corners-described : (id : ℕ) (closed : Bool) (i c holes : ℕ) → holes ≤ 32 → Described id i (Outline closed c holes) (outlineCorners s e id closed c (countsAt s holes (i + 4)) (i + 4 + 2 * holes))
+  corners-described : (id : ℕ) (closed : Bool) (i c holes : ℕ) → holes ≤ 32 → Described id i (Outline closed c holes) (outlineOf s e id closed c holes i)
   unfolding outlineCorners
   corners-described id closed i c holes h =
       let n = c + sumOf (λ k. k) (countsAt s holes (i + 4)) in

@@ -13,7 +13,7 @@ use Rattle.object.specs.declared.Extent.{Extent}
 use Rattle.object.specs.Object.{Shape}
 use Rattle.rows.specs.declared.Refusal.the-variants.{Past, Kind, Counts}
 use Rattle.fields.specs.Fields.{u16At, u32At, countsAt}
-use Rattle.scene.specs.Scene.{Record, bad, rest, solidAt, outlineCorners, outlineAt, sweepAt, kindAt, recordAt}
+use Rattle.scene.specs.Scene.{Record, bad, rest, solidAt, outlineCorners, outlineOf, outlineAt, sweepAt, kindAt, recordAt}
 use Rattle.scene.specs.declared.records.RecordEnd.{RecordEnd}
 use Rattle.scene.specs.Answers.{endOf}
 use Rattle.fields.proofs.Fields.{u16-past}
@@ -57,7 +57,7 @@ outline-past s e id closed i h = rw (past e i 4 h)
 
 module _ (s : List ℕ) (e id : ℕ) (closed : Bool) (i outer holes : ℕ) (o : outer ≡ u16At s i) (h : holes ≡ u16At s (i + 2)) (l : i ≤ e) (f : 4 ≤ e - i) where
   abbrev hollow : Record
-  hollow = outlineCorners s e id closed outer (countsAt s holes (i + 4)) (i + 4 + 2 * holes)
+  hollow = outlineOf s e id closed outer holes i
 
   pub outline-many : 32 < holes → bad Counts ≡ outlineAt s e id closed i
   unfolding outlineAt

@@ -1,6 +1,6 @@
 -- What a header tells of the record that it was read from, and the object that it describes: document 01, section 1. Assumes nothing.
 use Prim.Native.Nat.{ℕ, _+_, _*_, _≤_}
-use mathlib.Core.Bool.{cond, true, false}
+use mathlib.Core.Bool.{Bool, cond, true, false}
 use mathlib.Core.List.{List}
 use lib.ListN.{getD}
 use lib.Dec.{eqb}
@@ -44,12 +44,16 @@ headerAt s i =
     let body = bodyAt s (i + 5) (getD s i 0) in
     record { id = u32At s (i + 1); body = body; size = 5 + bodySize s (i + 5) body }
 
+-- n sections from place `at` on, as a sweep or a round one
+abbrev pub sectionsShape : List ℕ → ℕ → Bool → ℕ → Shape
+sectionsShape s at round n = cond round (roundSweep (sectionsAt s n at)) (sweep (sectionsAt s n at))
+
 -- the shape that a body tells of, its corners or sections read from the scene
 abbrev pub shapeOf : List ℕ → ℕ → Body → Shape
 shapeOf s i (Solid extent) = solid (pointAt s i) (orientationAt s (i + 12)) extent
 shapeOf s i (Outline closed outer holes) =
     outline closed (cornersAt s outer (i + 4 + 2 * holes)) (holesAt s (countsAt s holes (i + 4)) (i + 4 + 2 * holes + 24 * outer))
-shapeOf s i (Sweep round sections) = cond round (roundSweep (sectionsAt s sections (i + 2))) (sweep (sectionsAt s sections (i + 2)))
+shapeOf s i (Sweep round sections) = sectionsShape s (i + 2) round sections
 
 -- the object that a header tells of, its record beginning at place i
 abbrev pub objectOf : List ℕ → ℕ → Header → Object

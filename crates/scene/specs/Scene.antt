@@ -43,6 +43,10 @@ outlineCorners s e id closed c counts i =
     cond (ltb 512 n) (bad Counts)
     (rest e i (24 * n) (all32 s (6 * n) i) (record { id = id; shape = outline closed (cornersAt s c i) (holesAt s counts (i + 24 * c)) }))
 
+-- the same by the number of its holes: the outline's counts are at place i, theirs behind the first two, and then the corners
+abbrev pub outlineOf : List ℕ → ℕ → ℕ → Bool → ℕ → ℕ → ℕ → Record
+outlineOf s e id closed c holes i = outlineCorners s e id closed c (countsAt s holes (i + 4)) (i + 4 + 2 * holes)
+
 -- an outline, its counts at place i
 unfoldable pub outlineAt : List ℕ → ℕ → ℕ → Bool → ℕ → Record
 outlineAt s e id closed i =
@@ -50,7 +54,7 @@ outlineAt s e id closed i =
     cond (ltb e (i + 4)) (bad Past)
     (cond (ltb 32 holes) (bad Counts)
     (cond (ltb e (i + 4 + 2 * holes)) (bad Past)
-    (outlineCorners s e id closed (u16At s i) (countsAt s holes (i + 4)) (i + 4 + 2 * holes))))
+    (outlineOf s e id closed (u16At s i) holes i)))
 
 -- a sweep, its count at place i
 unfoldable pub sweepAt : List ℕ → ℕ → ℕ → (List Section → Shape) → ℕ → Record

@@ -2,8 +2,8 @@
 use Prim.Native.Nat.{ℕ, _*_}
 use mathlib.Core.List.{List}
 use lib.Ieee.{Float}
-use denote.Ref.{RefT, now}
-use denote.Triple.Both.{Both}
+use denote.Ref.{now}
+use Rattle.lists.specs.Slices.{Slice}
 
 pub data Buffer : Type 0 where
   vertices : Buffer
@@ -60,10 +60,7 @@ Buffers = PerBuffer (λ k. List (Element k))
 abbrev pub lent : List Float → List Float → List ℕ → List ℕ → List ℕ → List ℕ → Buffers
 lent vs ns is ss accounts ls = record { vertices = vs; normals = ns; indices = is; spans = ss; account = accounts; log = ls }
 
--- a lent slice as a contract names it, and what the slices hold when the function is called and when it returns
-abbrev pub Slice : Type 0 → Type 0
-Slice A = Both (RefT (List A)) (RefT (List A))
-
+-- what the slices hold when the function is called and when it returns
 abbrev pub entering : Slice Float → Slice Float → Slice ℕ → Slice ℕ → Slice ℕ → Slice ℕ → Buffers
 entering vs ns is ss accounts ls = lent (now (vs .entry)) (now (ns .entry)) (now (is .entry)) (now (ss .entry)) (now (accounts .entry)) (now (ls .entry))
 

@@ -4,7 +4,9 @@ use Prim.Native.Nat.{ℕ, _+_, _*_, _≤_, _<_, _^_}
 use mathlib.Core.List.{List}
 use lib.ListN.{length}
 use lib.Seq.{sets}
+use denote.Ref.{now}
 use lib.Ieee.{Float}
+use Rattle.lists.specs.Slices.{Slice}
 use Rattle.object.specs.Object.{Shape}
 use Rattle.scene.specs.declared.headers.Body.{Body}
 use Rattle.scene.specs.Headers.{bodySize, Limits}
@@ -29,3 +31,15 @@ pub record DrewObject (limit : Float) (sh : Shape) (before : ℕ) (vs ns : List 
   pub offered : r .offered ≡ offered sh
   pub entries : r .entries ≡ length (logOf sh)
   pub log : ls′ ≡ sets ls 0 (logNumbers (logOf sh))
+
+-- the same of the lent slices
+abbrev pub DrawsObject : Float → Shape → ℕ → Drawn → Slice Float → Slice Float → Slice ℕ → Slice ℕ → Type 0
+DrawsObject limit sh before r vs ns is ls =
+    DrewObject limit sh before (now (vs .entry)) (now (ns .entry)) (now (is .entry)) (now (ls .entry)) r
+    (now (vs .exit)) (now (ns .exit)) (now (is .exit)) (now (ls .exit))
+
+-- of a shape without a log, where none is lent: it holds of any
+abbrev pub DrawsUnlogged : Float → Shape → ℕ → Drawn → Slice Float → Slice Float → Slice ℕ → Type 0
+DrawsUnlogged limit sh before r vs ns is =
+    (ls : List ℕ) → DrewObject limit sh before (now (vs .entry)) (now (ns .entry)) (now (is .entry)) ls r
+    (now (vs .exit)) (now (ns .exit)) (now (is .exit)) ls

@@ -1,10 +1,9 @@
 // A solid drawn from its record: a box, a cylinder, or nothing where it has no size.
-ghost use mathlib.Core.Path.{_≡_};
 ghost use Prim.Native.Nat.{_+_, _≤_};
 ghost use lib.ListN.{length};
 ghost use Rattle.fields.specs.Fields.{pointAt, orientationAt};
-ghost use Rattle.face.specs.Drawing.{drawing, Room};
-ghost use Rattle.shapes.specs.Stages.{solidStages, DrewStages, lastOf};
+ghost use Rattle.face.specs.Drawing.{Room};
+ghost use Rattle.shapes.specs.Stages.{solidStages, DrawsStages};
 use boxes::cuboid;
 use cylinders::cylinder;
 use face::Tally;
@@ -24,7 +23,7 @@ pub fn solid(
     is: &mut [u32],
 ) -> [Tally; 6]
     requires { ⌜ (i + 60 ≤ length (now s)) × Room before t 96 60 ⌝ }
-    ensures { λ r. ⌜ DrewStages limit (solidStages (pointAt (now (s .entry)) i) (orientationAt (now (s .entry)) (i + 12)) extent) before (drawing t (now (vs .entry)) (now (ns .entry)) (now (is .entry))) (drawing (lastOf r) (now (vs .exit)) (now (ns .exit)) (now (is .exit))) r ⌝ }
+    ensures { λ r. ⌜ DrawsStages limit (solidStages (pointAt (now (s .entry)) i) (orientationAt (now (s .entry)) (i + 12)) extent) before t r vs ns is ⌝ }
 {
     let origin = geometry::point_at(s, i);
     let turn = geometry::orientation_at(s, i + 12);

@@ -7,10 +7,10 @@ ghost use lib.ListN.{length};
 ghost use Rattle.float.specs.Number.{zerof};
 ghost use Rattle.vectors.specs.Vectors.{vector};
 ghost use Rattle.coords.specs.Coords.{diff};
-ghost use Rattle.face.specs.Drawing.{drawing, Drew, Room};
+ghost use Rattle.face.specs.Drawing.{Room, Draws};
 ghost use Rattle.fields.specs.Fields.{sectionsAt};
 ghost use Rattle.shapes.specs.Shapes.{pairFaces};
-ghost use Rattle.shapes.specs.Stages.{sweepStages, DrewStages, lastOf};
+ghost use Rattle.shapes.specs.Stages.{sweepStages, DrawsStages};
 use coords::Point;
 use face::Tally;
 use faces::quad;
@@ -46,7 +46,7 @@ fn pair(
     is: &mut [u32],
 ) -> Tally
     requires { ⌜ Room before t 16 8 ⌝ }
-    ensures { λ r. ⌜ Drew limit (pairFaces a b) before (drawing t (now (vs .entry)) (now (ns .entry)) (now (is .entry))) (drawing r (now (vs .exit)) (now (ns .exit)) (now (is .exit))) ⌝ }
+    ensures { λ r. ⌜ Draws limit (pairFaces a b) before t r vs ns is ⌝ }
 {
     let left = side_direction(a.left.base, b.left.base);
     let u = quad(
@@ -123,7 +123,7 @@ pub fn sweep(
     is: &mut [u32],
 ) -> [Tally; 6]
     requires { ⌜ (at + 48 * n ≤ length (now s)) × Room before t (16 * n) (8 * n) ⌝ }
-    ensures { λ r. ⌜ DrewStages limit (sweepStages (sectionsAt (now (s .entry)) n at)) before (drawing t (now (vs .entry)) (now (ns .entry)) (now (is .entry))) (drawing (lastOf r) (now (vs .exit)) (now (ns .exit)) (now (is .exit))) r ⌝ }
+    ensures { λ r. ⌜ DrawsStages limit (sweepStages (sectionsAt (now (s .entry)) n at)) before t r vs ns is ⌝ }
 {
     if n == 0 {
         return [t; 6];

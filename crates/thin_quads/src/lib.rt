@@ -6,8 +6,7 @@ ghost use lib.Ieee.{lt};
 ghost use Rattle.vectors.specs.declared.Vector.{Vector};
 ghost use Rattle.vectors.specs.Vectors.{cross, norm};
 ghost use Rattle.coords.specs.Coords.{diff};
-ghost use Rattle.triangles.specs.Triangles.{triangle};
-ghost use Rattle.offering.specs.Offered.{offerAll};
+ghost use Rattle.offering.specs.Offered.{offerAll, quadTriangles};
 use coords::Point;
 
 fn is_thin(limit: f32, a: Point, b: Point, c: Point) -> bool
@@ -18,7 +17,8 @@ fn is_thin(limit: f32, a: Point, b: Point, c: Point) -> bool
 
 // How many triangles of a face of four points are thin, which is all that counts where nothing is written.
 pub fn thin_in_quad(a: Point, b: Point, c: Point, d: Point, limit: f32) -> u32
-    ensures { λ r. ⌜ (r ≤ 2) × ((out : Vector) (base n : ℕ) (is : List ℕ) → r ≡ offerAll limit (a ∷ b ∷ c ∷ d ∷ []) out base n is (triangle 0 1 2 ∷ triangle 0 2 3 ∷ []) .sum .thin) ⌝ }
+    ensures { λ r. ⌜ r ≤ 2 ⌝ }
+    ensures { λ r. ⌜ ((out : Vector) (base n : ℕ) (is : List ℕ) → r ≡ offerAll limit (a ∷ b ∷ c ∷ d ∷ []) out base n is quadTriangles .sum .thin) ⌝ }
 {
     let x = is_thin(limit, a, b, c) as u32;
     let y = is_thin(limit, a, c, d) as u32;

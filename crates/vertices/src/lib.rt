@@ -1,16 +1,15 @@
 // A face's points stored in the lent buffers, each with the face's normal.
-ghost use mathlib.Core.Path.{_≡_};
-ghost use Prim.Native.Nat.{_+_, _*_, _<_, _/_, _^_};
-ghost use lib.ListN.{length, replicate};
-ghost use lib.Seq.{sets};
-ghost use Rattle.coords.specs.Buffers.{vertexNumbers, normalNumbers, verticesIn};
+ghost use Prim.Native.Nat.{_+_, _<_, _/_, _^_};
+ghost use lib.ListN.{length};
+ghost use Rattle.coords.specs.Buffers.{verticesIn};
 ghost use Rattle.vectors.specs.Vectors.{unitZ, normalizeOr};
+ghost use Rattle.vertices.specs.Stored.{Stores};
 use vectors::Vector;
 
 // All points, each with the normal, from place at on.
 fn put_vertices(points: &[f32], normal: Vector, at: u32, vs: &mut [f32], ns: &mut [f32])
     requires { ⌜ at + length (now points) / 3 < 2 ^ 32 ⌝ }
-    ensures { λ _. ⌜ (now (vs .exit) ≡ sets (now (vs .entry)) (3 * at) (vertexNumbers (verticesIn (now (points .entry))))) × (now (ns .exit) ≡ sets (now (ns .entry)) (3 * at) (normalNumbers (replicate (length (verticesIn (now (points .entry)))) normal))) ⌝ }
+    ensures { λ _. ⌜ Stores (verticesIn (now (points .entry))) normal at vs ns ⌝ }
 {
     let n = (points.len() / 3) as u32;
     let mut k: u32 = 0;
@@ -26,7 +25,7 @@ fn put_vertices(points: &[f32], normal: Vector, at: u32, vs: &mut [f32], ns: &mu
 // measured, no normal is worked out.
 pub fn put_points(points: &[f32], sum: Vector, at: u32, vs: &mut [f32], ns: &mut [f32])
     requires { ⌜ at + length (now points) / 3 < 2 ^ 32 ⌝ }
-    ensures { λ _. ⌜ (now (vs .exit) ≡ sets (now (vs .entry)) (3 * at) (vertexNumbers (verticesIn (now (points .entry))))) × (now (ns .exit) ≡ sets (now (ns .entry)) (3 * at) (normalNumbers (replicate (length (verticesIn (now (points .entry)))) (normalizeOr sum unitZ)))) ⌝ }
+    ensures { λ _. ⌜ Stores (verticesIn (now (points .entry))) (normalizeOr sum unitZ) at vs ns ⌝ }
 {
     if (vs.len() == 0) & (ns.len() == 0) {
         return;

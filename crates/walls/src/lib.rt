@@ -1,7 +1,7 @@
 // The walls of a ring of an outline, `walls` of object_mesh.rs: one from each corner to the next.
 ghost use Prim.Native.Nat.{_*_, _≤_};
 ghost use Rattle.fields.specs.Fields.{cornersAt};
-ghost use Rattle.face.specs.Drawing.{drawing, Drew, Room};
+ghost use Rattle.face.specs.Drawing.{Draws, Room};
 ghost use Rattle.shapes.specs.Shapes.{walls};
 ghost use Rattle.corners.specs.Outlines.{CornersIn};
 use corners::next_place;
@@ -24,7 +24,7 @@ pub fn walls(
     is: &mut [u32],
 ) -> Tally
     requires { ⌜ CornersIn (now s) at n × (edges ≤ n) × Room before t (4 * edges) (2 * edges) ⌝ }
-    ensures { λ r. ⌜ Drew limit (walls (cornersAt (now (s .entry)) n at) normal edges) before (drawing t (now (vs .entry)) (now (ns .entry)) (now (is .entry))) (drawing r (now (vs .exit)) (now (ns .exit)) (now (is .exit))) ⌝ }
+    ensures { λ r. ⌜ Draws limit (walls (cornersAt (now (s .entry)) n at) normal edges) before t r vs ns is ⌝ }
 {
     let mut t = t;
     let mut k = 0;

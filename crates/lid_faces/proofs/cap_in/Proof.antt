@@ -6,7 +6,7 @@ use native.Mathlib.Nat.{zero-add}
 use native.Mathlib.Omega.{arith}
 use lib.Seq.{length-take-le}
 use Rattle.lid_faces.proofs.LidLaws.{triangles-drawn, few-triangles, lid-asks}
-use Rattle.corners.specs.Outlines.{lidAt}
+use Rattle.corners.specs.Outlines.{lidIn}
 use Rattle.lid_faces.proofs.cap_in.Statement.{statement}
 use Rattle.lid_faces.proofs.cap_in.Tie as tie
 
@@ -26,8 +26,13 @@ returns c =
     let z = c .before .before .before .before .before .before .before .before .before .before .before .before .before .before .before .before .before .before .before .before .before .before .before .before .before .before .before .before .before .before .before .before .before .before .before in
     let o = z .args .o in
     let d = c .before .before .before .before .before .before .before .before .before .before .before .before .before .before .before .before .before .before .before .before .before .before .before .before .cut .ensures in
-    let drawn = triangles-drawn _ _ (lidAt (z .args .s .now) (o .i) (o .outer) (o .holes) .triangles) (c .before .before .before .before .before .before .before .before .before .before .before .before .before .before .before .before .before .before .before .before .before .before .before .before .cut .result .triangles) (d .offered) (d .drawn) (z .pre .1 .1) in
-    (rw drawn at (c .before .before .before .before .before .before .before .before .before .before .before .lid-faces .ensures), (c .closed-price .ensures ∙ ap (λ (k : ℕ). 2 * o .n + k + cond (o .high) k 0) (d .offered), d .entries ∙ zero-add _, d .written))
+    let drawn = triangles-drawn _ _ (lidIn (z .args .s .now) o .triangles) (c .before .before .before .before .before .before .before .before .before .before .before .before .before .before .before .before .before .before .before .before .before .before .before .before .cut .result .triangles) (d .offered) (d .drawn) (z .pre .1 .1) in
+    record {
+      drew = rw drawn at (c .before .before .before .before .before .before .before .before .before .before .before .lid-faces .ensures);
+      offered = c .closed-price .ensures ∙ ap (λ (k : ℕ). 2 * o .n + k + cond (o .high) k 0) (d .offered);
+      entries = d .entries ∙ zero-add _;
+      log = d .written;
+    }
 
 pub cap-in-spec : {M : Type 1} → statement M
 cap-in-spec =

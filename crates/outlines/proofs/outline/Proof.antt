@@ -21,7 +21,7 @@ cap-requires c κs =
 returns : tie.Need-returns
 returns c =
     let a = c .before .before .before .before .before .before .before .before .before .before .before .before .before .before .before .before .before .before .before .before .before .before .before .before .before .before .before .before .before .before .before .before .args in
-    closed-in (a .s .now) (a .i) (a .closed) (a .outer) (a .holes) (c .before .before .before .before .before .before .before .before .before .before .before .before .before .before .before .before .before .before .before .before .before .before .before .before .before .before .outline-at .ensures) (c .before .before .before .before .before .before .before .before .before .before .before .before .before .before .before .if1 .taken) (c .before .before .before .before .before .before .before .before .before .before .before .before .before .before .before .before .before .before .before .before .before .before .all-walls .ensures) (c .before .before .before .before .before .before .before .before .before .before .cap .ensures .0) (c .before .before .before .before .before .before .before .before .before .before .cap .ensures .1)
+    closed-in (a .s .now) (a .i) (a .closed) (a .outer) (a .holes) (c .before .before .before .before .before .before .before .before .before .before .before .before .before .before .before .before .before .before .before .before .before .before .before .before .before .before .outline-at .ensures) (c .before .before .before .before .before .before .before .before .before .before .before .before .before .before .before .if1 .taken) (c .before .before .before .before .before .before .before .before .before .before .before .before .before .before .before .before .before .before .before .before .before .before .all-walls .ensures) (c .before .before .before .before .before .before .before .before .before .before .cap .ensures)
 
 open-price-requires : tie.Need-open-price-requires
 open-price-requires c κs =
