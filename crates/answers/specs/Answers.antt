@@ -7,6 +7,7 @@ use lib.ListN.{take}
 use lib.Seq.{sets}
 use lib.Dec.{ltb}
 use lib.Ieee.{Float}
+use Rattle.lists.specs.Slices.{Slice}
 use Rattle.object.specs.Object.{Object}
 use Rattle.validation.specs.declared.Validation.{Validation}
 use Rattle.validation.specs.Validate.{validate}
@@ -15,7 +16,8 @@ use Rattle.answers.specs.declared.Lengths.{Lengths}
 use Rattle.answers.specs.declared.Answered.{Answered}
 use Rattle.answers.specs.declared.Answered.the-variants.{Refused, Counts}
 use Rattle.answers.specs.declared.Answer.{Answer as CAnswer}
-use Rattle.scene_mesh.specs.PerBuffer.{Counts as Numbers, Buffers}
+use Rattle.answers.specs.declared.JudgedBuild.{JudgedBuild}
+use Rattle.scene_mesh.specs.PerBuffer.{Counts as Numbers, Buffers, entering, leaving}
 use Rattle.scene_mesh.specs.Operations.{Answer, Built, refusedWith, output, countsOf, build}
 
 abbrev pub countsFrom : Counted → Numbers
@@ -40,10 +42,17 @@ answerOf (Counts c) = accepts c
 abbrev pub builtWith : Answered → Buffers → Built
 builtWith r b = record { answer = answerOf r; buffers = b }
 
+-- the same of the lent slices, by what they hold as the call begins and as it ends
+abbrev pub Builds : (Buffers → Built) → Answered → Slice Float → Slice Float → Slice ℕ → Slice ℕ → Slice ℕ → Slice ℕ → Type 0
+Builds f r vs ns is ss accounts ls = builtWith r (leaving vs ns is ss accounts ls) ≡ f (entering vs ns is ss accounts ls)
+
 -- Build, and then Validate on the measured first part of the buffers: nothing of them where Build is refused
 pub record BuiltAndJudged : Type 0 where
   pub built : Built
   pub validation : Validation
+
+abbrev pub judgedWith : JudgedBuild → Buffers → BuiltAndJudged
+judgedWith r b = record { built = builtWith (r .answer) b; validation = r .validation }
 
 unfoldable pub judged : Built → BuiltAndJudged
 judged r =

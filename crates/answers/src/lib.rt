@@ -1,9 +1,13 @@
 // What the operations answer: specs/Answers.antt gives document 01's number and values for each case.
 ghost use mathlib.Core.Path.{_≡_};
+ghost use Rattle.scene_mesh.specs.PerBuffer.{numbersFor, FitCounts};
 ghost use Rattle.scene_mesh.specs.Operations.{noCounts, refusedWith};
 ghost use Rattle.answers.specs.Answers.{countsFrom, accepts, answerFrom, answerOf};
+use lid::ENTRY_WIDTH;
 use rows::Refusal;
 use rows::refusal_number;
+use scene_mesh::ACCOUNT_WIDTH;
+use scene_mesh::SPAN_WIDTH;
 use validation::Validation;
 
 // How many numbers each buffer gets.
@@ -51,6 +55,21 @@ pub struct Answer {
     pub refusal: u32,
     pub object: u32,
     pub counts: Counted,
+}
+
+// The numbers that so many vertices, triangles, spans, objects and log entries take in each buffer.
+pub fn numbers_for(vertices: u32, triangles: u32, spans: u32, objects: u32, entries: u32) -> Counted
+    requires { ⌜ FitCounts (numbersFor vertices triangles spans objects entries) ⌝ }
+    ensures { λ r. ⌜ countsFrom r ≡ numbersFor vertices triangles spans objects entries ⌝ }
+{
+    Counted {
+        vertices: 3 * vertices,
+        normals: 3 * vertices,
+        indices: 3 * triangles,
+        spans: (SPAN_WIDTH as u32) * spans,
+        account: (ACCOUNT_WIDTH as u32) * objects,
+        log: (ENTRY_WIDTH as u32) * entries,
+    }
 }
 
 impl Counted {

@@ -18,14 +18,14 @@ use Rattle.answers.specs.declared.Counted.{Counted}
 use Rattle.answers.specs.declared.Answered.the-variants.{Counts as CountsAre}
 use Rattle.scene_mesh.specs.declared.Room.{Room}
 use Rattle.scene_mesh.specs.declared.Room.the-variants.{Enough, Short}
-use Rattle.scene_mesh.specs.PerBuffer.{Buffer, each, at, Counts, Buffers}
+use Rattle.scene_mesh.specs.PerBuffer.{Buffer, each, at, Counts, Buffers, FitCounts}
 use Rattle.scene_mesh.specs.PerBuffer.Buffer.{vertices, normals, indices, spans, account, log}
 use Rattle.scene_mesh.specs.Operations.{output, countsOf, done, tooShort, overlay, refusedBuild, buildOutput, buildScene}
 use Rattle.answers.specs.Answers.{countsFrom, builtWith}
 use Rattle.answers.proofs.Calls.{build-refused, build-accepted}
 use Rattle.room.proofs.Rooms.{noVertices, noIndices, noRecords}
 use Rattle.progress.specs.Pass.{beginning, CanAddAll}
-use Rattle.progress.specs.Wrote.{stored, WroteAll, FitCounts}
+use Rattle.progress.specs.Wrote.{stored, WroteAll}
 use Rattle.progress.proofs.Pass.Objects.{counts-fit}
 use Rattle.progress.proofs.Pass.Tails.{sets-over}
 use Rattle.scene_mesh.specs.Demand3.{LongEnough}
@@ -93,10 +93,6 @@ longer p q = each (λ k. le-trans (at q k) (at p k))
 -- what fits u32, and no more than that
 fewer : {a b : Counts} → FitCounts a → LongEnough a b → FitCounts b
 fewer f p = each (λ k. lt-of-le-of-lt (at p k) (at f k))
-
-pub few-fit : {a b : Most} {n : ℕ} → Few a 16777216 65536 → Few b 16777216 65536 → n ≤ 65536 → FitCounts (numbersOf (together a b) n)
-few-fit p q h =
-    record { vertices = omega (arith, p .vertices, q .vertices); normals = omega (arith, p .vertices, q .vertices); indices = omega (arith, p .triangles, q .triangles); spans = omega (arith, p .spans, q .spans); account = omega arith; log = omega (arith, p .entries, q .entries) }
 
 -- all objects written into buffers with room for them
 built-whole : (limit : Float) (os : List Object) (b : Buffers) (c : Counted) → countsFrom c ≡ countsOf (output limit os) → (b′ : Buffers) → LongEnough (countsOf b) (countsOf (output limit os)) → b′ ≡ stored (output limit os) b

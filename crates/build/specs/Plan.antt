@@ -7,10 +7,9 @@ use Rattle.object.specs.Object.{Object}
 use Rattle.scene.specs.declared.scenes.Checked.the-variants.{Accepted}
 use Rattle.scene.specs.Scene.{scene, accepted}
 use Rattle.scene.specs.Answers.{checkedOf}
-use Rattle.scene_mesh.specs.PerBuffer.{Counts, Buffers}
+use Rattle.scene_mesh.specs.PerBuffer.{Counts, Buffers, FitCounts}
 use Rattle.scene_mesh.specs.Operations.{output, countsOf, tooShort, refusedBuild, buildOutput, buildScene}
 use Rattle.scene_mesh.specs.Demand3.{LongEnough}
-use Rattle.progress.specs.Wrote.{FitCounts}
 use Rattle.build.specs.declared.Plan.{Plan}
 use Rattle.build.specs.declared.Plan.the-variants.{Refuse, Write}
 

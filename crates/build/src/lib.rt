@@ -7,9 +7,8 @@ ghost use Prim.Native.Nat.{_≤_};
 ghost use Rattle.scene.specs.declared.scenes.Checked.the-variants.{Accepted};
 ghost use Rattle.scene.specs.Scene.{scene};
 ghost use Rattle.scene.specs.Answers.{checkedOf};
-ghost use Rattle.scene_mesh.specs.PerBuffer.{entering, leaving};
 ghost use Rattle.scene_mesh.specs.Operations.{buildScene, build};
-ghost use Rattle.answers.specs.Answers.{lengthsFrom, builtWith};
+ghost use Rattle.answers.specs.Answers.{lengthsFrom, Builds};
 ghost use Rattle.most.specs.Most.{numbersOf, together, Few};
 ghost use Rattle.build.specs.Plan.{PlanBy, PlanHolds};
 use crate::pass::write_objects;
@@ -80,7 +79,7 @@ fn build_scene(
     account: &mut [u32],
     log: &mut [u32],
 ) -> Answered
-    ensures { λ r. ⌜ builtWith r (leaving vertices normals indices spans account log) ≡ buildScene limit (scene (now (s .entry))) (entering vertices normals indices spans account log) ⌝ }
+    ensures { λ r. ⌜ Builds (buildScene limit (scene (now (s .entry)))) r vertices normals indices spans account log ⌝ }
 {
     let has = Lengths {
         vertices: vertices.len(),
@@ -115,7 +114,7 @@ pub fn build(
     account: &mut [u32],
     log: &mut [u32],
 ) -> Answered
-    ensures { λ r. ⌜ builtWith r (leaving vertices normals indices spans account log) ≡ build (now (s .entry)) (entering vertices normals indices spans account log) ⌝ }
+    ensures { λ r. ⌜ Builds (build (now (s .entry))) r vertices normals indices spans account log ⌝ }
 {
     build_scene(s, MIN_AREA, vertices, normals, indices, spans, account, log)
 }

@@ -1,14 +1,12 @@
 // The pass over the records of an accepted scene: each object is drawn from its record behind those
 // before it, and its span and account are stored.
 ghost use mathlib.Core.Path.{_≡_};
-ghost use mathlib.Core.List.{List};
-ghost use Rattle.object.specs.Object.{Object};
 ghost use Rattle.scene.specs.declared.scenes.Checked.the-variants.{Accepted};
-ghost use Rattle.scene.specs.Scene.{scene, accepted};
+ghost use Rattle.scene.specs.Scene.{scene};
 ghost use Rattle.scene.specs.Answers.{checkedOf};
 ghost use Rattle.scene_mesh.specs.PerBuffer.{entering, leaving};
-ghost use Rattle.progress.specs.Pass.{beginning, CanAdd, AddedObject, CanAddAll, AddedAll};
-ghost use Rattle.progress.specs.Wrote.{WroteAll};
+ghost use Rattle.progress.specs.Pass.{beginning, CanAdd, AddedObject, CanAddAll, AddedScene};
+ghost use Rattle.progress.specs.Wrote.{WroteScene};
 use answers::Counted;
 use progress::BEGINNING;
 use progress::Progress;
@@ -72,7 +70,7 @@ pub fn write_behind(
     log: &mut [u32],
 ) -> Progress
     requires { ⌜ (Accepted n ≡ checkedOf (scene (now s))) × CanAddAll limit (now s) from ⌝ }
-    ensures { λ r. ⌜ ((os : List Object) → scene (now (s .entry)) ≡ accepted os → AddedAll limit os from r (entering vs ns is spans account log) (leaving vs ns is spans account log)) ⌝ }
+    ensures { λ r. ⌜ AddedScene limit (now (s .entry)) from r (entering vs ns is spans account log) (leaving vs ns is spans account log) ⌝ }
 {
     let end = from.objects + n;
     let mut p = Progress {
@@ -102,7 +100,7 @@ pub fn write_objects(
     log: &mut [u32],
 ) -> Counted
     requires { ⌜ (Accepted n ≡ checkedOf (scene (now s))) × CanAddAll limit (now s) beginning ⌝ }
-    ensures { λ r. ⌜ ((os : List Object) → scene (now (s .entry)) ≡ accepted os → WroteAll limit os r (entering vs ns is spans account log) (leaving vs ns is spans account log)) ⌝ }
+    ensures { λ r. ⌜ WroteScene limit (now (s .entry)) r (entering vs ns is spans account log) (leaving vs ns is spans account log) ⌝ }
 {
     count_numbers(write_behind(s, n, limit, BEGINNING, vs, ns, is, spans, account, log))
 }

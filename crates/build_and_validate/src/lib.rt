@@ -6,7 +6,7 @@ ghost use Rattle.object.specs.Object.{Object};
 ghost use Rattle.scene.specs.Scene.{scene, accepted};
 ghost use Rattle.scene_mesh.specs.PerBuffer.{entering, leaving};
 ghost use Rattle.scene_mesh.specs.Operations.{countsOf, measure, build};
-ghost use Rattle.answers.specs.Answers.{answerOf, builtWith, buildAndValidate};
+ghost use Rattle.answers.specs.Answers.{answerOf, judgedWith, buildAndValidate};
 ghost use Rattle.scene_mesh.specs.Demand3.{LongEnough, measured, Demand3Of};
 use answers::JudgedBuild;
 use build::build;
@@ -20,8 +20,12 @@ pub fn build_and_validate(
     account: &mut [u32],
     log: &mut [u32],
 ) -> JudgedBuild
-    ensures same { λ r. ⌜ record { built = builtWith (r .answer) (leaving vertices normals indices spans account log); validation = r .validation } ≡ buildAndValidate (now (s .entry)) (entering vertices normals indices spans account log) ⌝ }
-    ensures demand3 { λ r. ⌜ ((os : List Object) → scene (now (s .entry)) ≡ accepted os → LongEnough (countsOf (entering vertices normals indices spans account log)) (measure (now (s .entry)) .counts) → Demand3Of minArea os (measured (answerOf (r .answer) .counts) (leaving vertices normals indices spans account log))) ⌝ }
+    ensures same { λ r. ⌜ judgedWith r (leaving vertices normals indices spans account log)
+        ≡ buildAndValidate (now (s .entry)) (entering vertices normals indices spans account log) ⌝ }
+    ensures demand3 { λ r. ⌜ ((os : List Object)
+        → scene (now (s .entry)) ≡ accepted os
+        → LongEnough (countsOf (entering vertices normals indices spans account log)) (measure (now (s .entry)) .counts)
+        → Demand3Of minArea os (measured (answerOf (r .answer) .counts) (leaving vertices normals indices spans account log))) ⌝ }
 {
     let answer = build(s, vertices, normals, indices, spans, account, log);
     let m = answer.mesh_lengths();

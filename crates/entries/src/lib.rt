@@ -5,6 +5,7 @@ ghost use Prim.Native.Nat.{_*_};
 ghost use Rattle.triangles.specs.Triangles.{triangle};
 ghost use Rattle.lid.specs.Log.{entry};
 ghost use Rattle.lid.specs.Written.{logWith, trianglesWith};
+use lid::ENTRY_WIDTH;
 use numbers::put_four;
 use numbers::put_numbers;
 
@@ -12,7 +13,7 @@ use numbers::put_numbers;
 pub fn put_entry(log: &mut [u32], n: u32, mark: u32, a: u32, b: u32, c: u32)
     ensures { λ _. ⌜ now (log .exit) ≡ logWith (now (log .entry)) n (entry mark a b c ∷ []) ⌝ }
 {
-    put_four(log, 4 * (n as usize), mark, a, b, c);
+    put_four(log, ENTRY_WIDTH * (n as usize), mark, a, b, c);
 }
 
 // Writes triangle n.

@@ -46,14 +46,14 @@ pub record Drew (limit : Float) (faces : List Face) (before : ℕ) (d d′ : Dra
   pub after : d′ ≡ drawn limit faces before d
 
 -- The lent slices as a function is called with counts t, and as it returns with counts r; and that it drew the faces into them between.
-abbrev pub entering : Tally → Slice Float → Slice Float → Slice ℕ → Drawing
-entering t vs ns is = drawing t (now (vs .entry)) (now (ns .entry)) (now (is .entry))
+abbrev pub atEntry : Tally → Slice Float → Slice Float → Slice ℕ → Drawing
+atEntry t vs ns is = drawing t (now (vs .entry)) (now (ns .entry)) (now (is .entry))
 
-abbrev pub leaving : Tally → Slice Float → Slice Float → Slice ℕ → Drawing
-leaving r vs ns is = drawing r (now (vs .exit)) (now (ns .exit)) (now (is .exit))
+abbrev pub atExit : Tally → Slice Float → Slice Float → Slice ℕ → Drawing
+atExit r vs ns is = drawing r (now (vs .exit)) (now (ns .exit)) (now (is .exit))
 
 abbrev pub Draws : Float → List Face → ℕ → Tally → Tally → Slice Float → Slice Float → Slice ℕ → Type 0
-Draws limit faces before t r vs ns is = Drew limit faces before (entering t vs ns is) (leaving r vs ns is)
+Draws limit faces before t r vs ns is = Drew limit faces before (atEntry t vs ns is) (atExit r vs ns is)
 
 -- v vertices and k triangles more stay below 2 ^ 32
 pub record Room (before : ℕ) (t : Tally) (v k : ℕ) : Type 0 where

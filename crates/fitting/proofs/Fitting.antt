@@ -18,10 +18,9 @@ use Rattle.face.proofs.Draws.{vertices-most}
 use Rattle.shapes.specs.Shapes.{facesOf, logOf}
 use Rattle.shapes.proofs.Sizes.{Sized, body-sized}
 use Rattle.scene_mesh.specs.Mesh.{Span, keptBy, pieceOf, spanOf, addPiece, meshFrom, logsOf}
-use Rattle.scene_mesh.specs.PerBuffer.{Counts}
+use Rattle.scene_mesh.specs.PerBuffer.{Counts, FitCounts}
 use Rattle.scene_mesh.specs.Operations.{countsOf, output}
 use Rattle.scene_mesh.proofs.MeshSizes.{output-counts}
-use Rattle.progress.specs.Wrote.{FitCounts}
 
 -- objects in so many bytes come to no more than this
 pub record Within (limit : Float) (os : List Object) (bytes : ℕ) : Type 0 where

@@ -16,7 +16,10 @@ pub record Entry : Type 0 where
 abbrev pub entry : ℕ → ℕ → ℕ → ℕ → Entry
 entry m i j k = record { mark = m; a = i; b = j; c = k }
 
--- entries as numbers in the lent buffer, four to one
+-- entries as numbers in the lent buffer, so many to one
+abbrev pub entryWidth : ℕ
+entryWidth = 4
+
 abbrev pub entryRecord : Entry → List ℕ
 entryRecord e = e .mark ∷ e .a ∷ e .b ∷ e .c ∷ []
 
@@ -25,10 +28,10 @@ logNumbers es = join entryRecord es
 
 -- and read back
 abbrev pub entryAt : List ℕ → ℕ → Entry
-entryAt ns k = entry (getD ns (4 * k) 0) (getD ns (4 * k + 1) 0) (getD ns (4 * k + 2) 0) (getD ns (4 * k + 3) 0)
+entryAt ns k = let i = entryWidth * k in entry (getD ns i 0) (getD ns (i + 1) 0) (getD ns (i + 2) 0) (getD ns (i + 3) 0)
 
 unfoldable pub entriesIn : List ℕ → List Entry
-entriesIn ns = list (entryAt ns) (length ns / 4) 0
+entriesIn ns = list (entryAt ns) (length ns / entryWidth) 0
 
 -- the entry has the mark m
 unfoldable pub isMark : ℕ → Entry → Bool

@@ -10,7 +10,7 @@ use Rattle.lists.specs.Slices.{Slice}
 use Rattle.triangles.specs.Triangles.{Triangle}
 pub use Rattle.triangles.specs.Triangles.{triangleRecord}
 use Rattle.lid.specs.declared.LidCounts.{LidCounts}
-use Rattle.lid.specs.Log.{Entry, logNumbers}
+use Rattle.lid.specs.Log.{Entry, logNumbers, entryWidth}
 use Rattle.lid.specs.Lid.{Lid}
 
 -- how many corners an outline has, by its counts
@@ -19,7 +19,7 @@ cornerTotal outer counts = outer + sumOf (λ n. n) counts
 
 -- the log with entries written from entry n on, and a buffer of triangles; stores past the end are left out
 abbrev pub logWith : List ℕ → ℕ → List Entry → List ℕ
-logWith log n es = sets log (4 * n) (logNumbers es)
+logWith log n es = sets log (entryWidth * n) (logNumbers es)
 
 unfoldable pub triangleNumbers : List Triangle → List ℕ
 triangleNumbers ts = join triangleRecord ts

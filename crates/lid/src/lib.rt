@@ -1,6 +1,9 @@
 // The lid of a closed outline, as `lid_normal`, `triangulate` and `bridge` of object_mesh.rs: its
 // definitions (specs/), what is known of them, and the types that the crates above share.
 
+// The numbers of a log entry.
+pub const ENTRY_WIDTH: usize = 4;
+
 // A corner's number: the outer corners from 0, then the holes'.
 pub struct CornerNumber(pub u32);
 

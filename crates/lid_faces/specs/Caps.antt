@@ -9,7 +9,7 @@ use lib.Ieee.{Float}
 use Rattle.lists.specs.Slices.{Slice}
 use Rattle.face.specs.Faces.{Triangle}
 use Rattle.face.specs.declared.Tally.{Tally}
-use Rattle.face.specs.Drawing.{Drawing, entering, leaving}
+use Rattle.face.specs.Drawing.{Drawing, atEntry, atExit}
 use Rattle.lid.specs.Written.{logWith}
 use Rattle.shapes.specs.Stages.{PartRun, lidStages, DrewStages}
 use Rattle.corners.specs.declared.OutlineAt.{OutlineAt}
@@ -30,4 +30,4 @@ pub record DrewCap (limit : Float) (s : List ℕ) (o : OutlineAt) (before : ℕ)
 
 -- the same of the lent slices
 abbrev pub Caps : Float → List ℕ → OutlineAt → ℕ → Tally → Capped → Slice Float → Slice Float → Slice ℕ → Slice ℕ → Type 0
-Caps limit s o before t r vs ns is ls = DrewCap limit s o before (entering t vs ns is) (leaving (r .floor) vs ns is) (now (ls .entry)) (now (ls .exit)) r
+Caps limit s o before t r vs ns is ls = DrewCap limit s o before (atEntry t vs ns is) (atExit (r .floor) vs ns is) (now (ls .entry)) (now (ls .exit)) r

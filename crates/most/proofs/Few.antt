@@ -3,7 +3,8 @@ use Prim.Native.Nat.{ℕ, _+_, _≤_}
 use native.Mathlib.Nat.{le-trans}
 use native.Mathlib.Omega.{arith}
 use Rattle.most.specs.declared.Most.{Most}
-use Rattle.most.specs.Most.{together, Few}
+use Rattle.scene_mesh.specs.PerBuffer.{FitCounts}
+use Rattle.most.specs.Most.{together, numbersOf, Few}
 use Rattle.most.proofs.Bounds.{AtMost}
 
 pub few-less : {a b : Most} {bytes n : ℕ} → AtMost a b → Few b bytes n → Few a bytes n
@@ -26,4 +27,18 @@ few-together f g =
       triangles = omega (arith, f .triangles, g .triangles);
       spans = omega (arith, f .spans, g .spans);
       entries = omega (arith, f .entries, g .entries);
+    }
+
+-- what both parts of n objects take in each buffer fits u32
+pub few-fit : {a b : Most} {n : ℕ} → Few a 16777216 65536 → Few b 16777216 65536 → n ≤ 65536 → FitCounts (numbersOf (together a b) n)
+few-fit p q h =
+    let v = p .vertices in
+    let w = q .vertices in
+    record {
+      vertices = omega arith;
+      normals = omega arith;
+      indices = omega (arith, p .triangles, q .triangles);
+      spans = omega (arith, p .spans, q .spans);
+      account = omega arith;
+      log = omega (arith, p .entries, q .entries);
     }

@@ -26,7 +26,8 @@ pub extern "C" fn object_mesh_build(
     log: &mut [u32],
 ) -> Answer
     ensures answer { λ r. ⌜ answerFrom r ≡ build (now (scene .entry)) (entering vertices normals indices spans account log) .answer ⌝ }
-    ensures written { λ r. ⌜ leaving vertices normals indices spans account log ≡ build (now (scene .entry)) (entering vertices normals indices spans account log) .buffers ⌝ }
+    ensures written { λ r. ⌜ leaving vertices normals indices spans account log
+        ≡ build (now (scene .entry)) (entering vertices normals indices spans account log) .buffers ⌝ }
 {
     build::build(scene, vertices, normals, indices, spans, account, log).numbers()
 }

@@ -15,7 +15,7 @@ use Rattle.scene.specs.Headers.{headerAt, objectOf, Limits}
 use Rattle.face.specs.declared.Tally.{Tally}
 use Rattle.face.specs.Faces.{writeFaces}
 use Rattle.face.specs.Drawing.{tally}
-use Rattle.lid.specs.Log.{logNumbers}
+use Rattle.lid.specs.Log.{entryWidth, logNumbers}
 use Rattle.shapes.specs.declared.Drawn.{Drawn}
 use Rattle.shapes.specs.Stages.{lastOf}
 use Rattle.shapes.specs.Price.{offered}
@@ -23,7 +23,7 @@ use Rattle.shapes.specs.Shapes.{facesOf, logOf}
 use Rattle.progress.specs.declared.Progress.{Progress}
 use Rattle.progress.specs.declared.Starts.{Starts}
 use Rattle.scene_mesh.specs.Mesh.{Span, keptBy, thinBy, accountOf, pieceOf, spanOf, meshFrom, accountsOf, logsOf, spanNumbers, accountRecord, accountNumbers}
-use Rattle.scene_mesh.specs.PerBuffer.{each, at, numbersFor, Buffers}
+use Rattle.scene_mesh.specs.PerBuffer.{each, at, numbersFor, Counts, FitCounts, Buffers}
 use Rattle.scene_mesh.specs.Operations.{written}
 
 -- before the first object
@@ -39,7 +39,7 @@ pub record StartsIn (v n i l : ℕ) (p : Progress) (a : Starts) : Type 0 where
   pub vertices : (a .vertices ≡ startOf v (3 * p .vertices)) × (a .vertices ≤ v)
   pub normals : (a .normals ≡ startOf n (3 * p .vertices)) × (a .normals ≤ n)
   pub indices : (a .indices ≡ startOf i (3 * p .kept)) × (a .indices ≤ i)
-  pub log : (a .log ≡ startOf l (4 * p .entries)) × (a .log ≤ l)
+  pub log : (a .log ≡ startOf l (entryWidth * p .entries)) × (a .log ≤ l)
 
 -- ---- one object, by what drawing it came to
 
@@ -88,7 +88,7 @@ pub record DrewBehind (limit : Float) (sh : Shape) (p : Progress) (d : Came) (vs
   pub vertices : vs′ ≡ sets vs (3 * p .vertices) (vertexNumbers (writeFaces limit (p .vertices) (facesOf sh) .vertices))
   pub normals : ns′ ≡ sets ns (3 * p .vertices) (normalNumbers (writeFaces limit (p .vertices) (facesOf sh) .normals))
   pub indices : is′ ≡ sets is (3 * p .kept) (writeFaces limit (p .vertices) (facesOf sh) .indices)
-  pub log : ls′ ≡ sets ls (4 * p .entries) (logNumbers (logOf sh))
+  pub log : ls′ ≡ sets ls (entryWidth * p .entries) (logNumbers (logOf sh))
 
 -- ---- the pass
 
@@ -107,11 +107,13 @@ passOf p b = record { objects = p .objects; vertices = p .vertices; kept = p .ke
 abbrev pub begun : Buffers → Pass
 begun b = record { objects = 0; vertices = 0; kept = 0; spans = 0; entries = 0; buffers = b }
 
+-- the numbers that the counted objects take in each buffer
+abbrev pub passedBy : Pass → Counts
+passedBy st = numbersFor (st .vertices) (st .kept) (st .spans) (st .objects) (st .entries)
+
 -- what is written stands in each buffer behind what has been counted; a store past a buffer's end is left out
 abbrev pub storedBehind : Pass → Buffers → Buffers
-storedBehind st w =
-    let from = numbersFor (st .vertices) (st .kept) (st .spans) (st .objects) (st .entries) in
-    each (λ k. sets (at (st .buffers) k) (at from k) (at w k))
+storedBehind st w = let from = passedBy st in each (λ k. sets (at (st .buffers) k) (at from k) (at w k))
 
 -- one object more
 unfoldable pub withObject : Float → Object → Pass → Pass
@@ -141,12 +143,8 @@ withObjects limit os st =
     }
 
 -- what the counted objects take in each buffer fits the program's counts
-pub record Fits (st : Pass) : Type 0 where
-  pub vertices : 3 * st .vertices < 2 ^ 32
-  pub kept : 3 * st .kept < 2 ^ 32
-  pub spans : 5 * st .spans < 2 ^ 32
-  pub objects : 4 * st .objects < 2 ^ 32
-  pub entries : 4 * st .entries < 2 ^ 32
+abbrev pub Fits : Pass → Type 0
+Fits st = FitCounts (passedBy st)
 
 -- the next record is one of an accepted scene, and its object fits behind those before it
 pub record CanAdd (limit : Float) (s : List ℕ) (p : Progress) : Type 0 where
@@ -164,6 +162,10 @@ pub record AddedObject (limit : Float) (s : List ℕ) (p p′ : Progress) (b b�
 abbrev pub CanAddAll : Float → List ℕ → Progress → Type 0
 CanAddAll limit s p = (os : List Object) (b : Buffers) → scene s ≡ accepted os → Fits (withObjects limit os (passOf p b))
 
--- all objects of a scene, added behind those before it
+-- all objects of a list, added behind those before it
 pub record AddedAll (limit : Float) (os : List Object) (p p′ : Progress) (b b′ : Buffers) : Type 0 where
   pub pass : passOf p′ b′ ≡ withObjects limit os (passOf p b)
+
+-- those of a scene, where it is accepted
+abbrev pub AddedScene : Float → List ℕ → Progress → Progress → Buffers → Buffers → Type 0
+AddedScene limit s p p′ b b′ = (os : List Object) → scene s ≡ accepted os → AddedAll limit os p p′ b b′

@@ -1,14 +1,15 @@
 -- All objects of a scene written and counted. Definitions only.
 use mathlib.Core.Path.{_≡_}
-use Prim.Native.Nat.{_<_, _^_}
+use Prim.Native.Nat.{ℕ}
 use mathlib.Core.List.{List}
 use lib.Seq.{sets}
 use lib.Ieee.{Float}
 use Rattle.object.specs.Object.{Object}
+use Rattle.scene.specs.Scene.{scene, accepted}
 use Rattle.answers.specs.declared.Counted.{Counted}
 use Rattle.progress.specs.declared.Progress.{Progress}
 use Rattle.answers.specs.Answers.{countsFrom}
-use Rattle.scene_mesh.specs.PerBuffer.{PerBuffer, each, at, numbersFor, Counts, Buffers}
+use Rattle.scene_mesh.specs.PerBuffer.{each, at, numbersFor, Counts, Buffers}
 use Rattle.scene_mesh.specs.Operations.{output, countsOf}
 
 -- the numbers that the counted objects take in each buffer
@@ -24,6 +25,6 @@ pub record WroteAll (limit : Float) (os : List Object) (c : Counted) (b b′ : B
   pub counts : countsFrom c ≡ countsOf (output limit os)
   pub buffers : b′ ≡ stored (output limit os) b
 
--- every count fits u32
-abbrev pub FitCounts : Counts → Type 0
-FitCounts c = PerBuffer (λ k. at c k < 2 ^ 32)
+-- those of a scene, where it is accepted
+abbrev pub WroteScene : Float → List ℕ → Counted → Buffers → Buffers → Type 0
+WroteScene limit s c b b′ = (os : List Object) → scene s ≡ accepted os → WroteAll limit os c b b′

@@ -1,10 +1,14 @@
 // How far the pass over the records has come.
 ghost use mathlib.Core.Path.{_≡_};
-ghost use Prim.Native.Nat.{_*_, _<_, _≤_};
+ghost use Prim.Native.Nat.{_*_, _≤_};
+ghost use Rattle.lid.specs.Log.{entryWidth};
+ghost use Rattle.scene_mesh.specs.PerBuffer.{FitCounts};
 ghost use Rattle.answers.specs.Answers.{countsFrom};
 ghost use Rattle.progress.specs.Pass.{startOf, StartsIn, spansMore, cameTo, advanced, CanAdvance};
 ghost use Rattle.progress.specs.Wrote.{countedBy};
 use answers::Counted;
+use answers::numbers_for;
+use lid::ENTRY_WIDTH;
 use shapes::Drawn;
 
 // Where the next record begins, and what the objects before it came to.
@@ -43,18 +47,18 @@ fn clamp(len: usize, at: usize) -> usize
     len
 }
 
-// Where place n starts, counted in threes.
-fn thirds(len: usize, n: u32) -> usize
+// Where vertex or triangle n starts.
+fn triple_start(len: usize, n: u32) -> usize
     ensures { λ r. ⌜ (r ≡ startOf len (3 * n)) × (r ≤ len) ⌝ }
 {
     clamp(len, 3 * (n as usize))
 }
 
-// Where place n starts, counted in fours.
-fn fourths(len: usize, n: u32) -> usize
-    ensures { λ r. ⌜ (r ≡ startOf len (4 * n)) × (r ≤ len) ⌝ }
+// Where entry n of the log starts.
+fn entry_start(len: usize, n: u32) -> usize
+    ensures { λ r. ⌜ (r ≡ startOf len (entryWidth * n)) × (r ≤ len) ⌝ }
 {
-    clamp(len, 4 * (n as usize))
+    clamp(len, ENTRY_WIDTH * (n as usize))
 }
 
 // Where the next object starts in buffers of these lengths.
@@ -62,10 +66,10 @@ pub fn starts_in(p: Progress, vertices: usize, normals: usize, indices: usize, l
     ensures { λ r. ⌜ StartsIn vertices normals indices log p r ⌝ }
 {
     Starts {
-        vertices: thirds(vertices, p.vertices),
-        normals: thirds(normals, p.vertices),
-        indices: thirds(indices, p.kept),
-        log: fourths(log, p.entries),
+        vertices: triple_start(vertices, p.vertices),
+        normals: triple_start(normals, p.vertices),
+        indices: triple_start(indices, p.kept),
+        log: entry_start(log, p.entries),
     }
 }
 
@@ -97,15 +101,8 @@ pub fn advance(p: Progress, size: usize, d: Drawn) -> Progress
 
 // The numbers that the objects take in each buffer.
 pub fn count_numbers(p: Progress) -> Counted
-    requires { ⌜ (3 * p .vertices < 4294967296) × (3 * p .kept < 4294967296) × (5 * p .spans < 4294967296) × (4 * p .objects < 4294967296) × (4 * p .entries < 4294967296) ⌝ }
+    requires { ⌜ FitCounts (countedBy p) ⌝ }
     ensures { λ r. ⌜ countsFrom r ≡ countedBy p ⌝ }
 {
-    Counted {
-        vertices: 3 * p.vertices,
-        normals: 3 * p.vertices,
-        indices: 3 * p.kept,
-        spans: 5 * p.spans,
-        account: 4 * p.objects,
-        log: 4 * p.entries,
-    }
+    numbers_for(p.vertices, p.kept, p.spans, p.objects, p.entries)
 }

@@ -9,6 +9,7 @@ ghost use Rattle.quote_text.specs.Quote.{objectLine};
 ghost use Rattle.quote_objects.specs.Accounts.{Priced};
 use headers::header_at;
 use quote_lines::put_object;
+use scene_mesh::ACCOUNT_WIDTH;
 
 // A line for each of the n objects.
 pub fn put_objects(text: &mut [u8], s: &[u8], account: &[u32], n: usize) -> usize
@@ -20,7 +21,7 @@ pub fn put_objects(text: &mut [u8], s: &[u8], account: &[u32], n: usize) -> usiz
     let mut k = 0;
     while k < n {
         let h = header_at(s, at);
-        let i = 4 * k;
+        let i = ACCOUNT_WIDTH * k;
         next = put_object(text, next, h.id, account[i], account[i + 1], account[i + 2]);
         at = at + h.size;
         k = k + 1;

@@ -7,7 +7,7 @@ use Rattle.float.specs.Number.{minArea}
 use Rattle.object.specs.Object.{Object}
 use Rattle.scene.specs.Scene.{scene, accepted}
 use Rattle.validation.specs.declared.Validation.{Validation}
-use Rattle.scene_mesh.specs.Mesh.{meshOf}
+use Rattle.scene_mesh.specs.Mesh.{meshOf, spanWidth, accountWidth}
 use Rattle.scene_mesh.specs.Operations.{Answer, measure}
 use Rattle.quote_lines.specs.Lines.{isOk}
 use Rattle.quote_text.specs.Quote.{validation}
@@ -16,7 +16,8 @@ use Rattle.quote_summary.specs.declared.Summary.{Summary}
 
 abbrev pub summaryOf : Answer → Validation → Summary
 summaryOf a v =
-    record { refusal = a .number; objects = a .counts .account / 4; vertices = a .counts .vertices / 3; indices = a .counts .indices; spans = a .counts .spans / 5; ok = isOk v }
+    let c = a .counts in
+    record { refusal = a .number; objects = c .account / accountWidth; vertices = c .vertices / 3; indices = c .indices; spans = c .spans / spanWidth; ok = isOk v }
 
 -- of the objects of an accepted scene
 pub record SummedUp (os : List Object) (m : Summary) (numbers : List ℕ) : Type 0 where

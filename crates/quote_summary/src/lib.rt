@@ -8,6 +8,8 @@ ghost use Rattle.quote_summary.specs.Summaries.{summaryOf, Summed};
 use answers::Answer;
 use build_and_validate::build_and_validate;
 use quote_lines::is_ok;
+use scene_mesh::ACCOUNT_WIDTH;
+use scene_mesh::SPAN_WIDTH;
 use validation::Validation;
 
 pub struct Summary {
@@ -25,10 +27,10 @@ fn summary_of(a: Answer, v: Validation) -> Summary
     let c = a.counts;
     Summary {
         refusal: a.refusal,
-        objects: (c.account / 4) as usize,
+        objects: (c.account as usize) / ACCOUNT_WIDTH,
         vertices: c.vertices / 3,
         indices: c.indices,
-        spans: c.spans / 5,
+        spans: c.spans / (SPAN_WIDTH as u32),
         ok: is_ok(v),
     }
 }

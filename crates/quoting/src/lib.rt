@@ -18,7 +18,8 @@ use quote_summary::sum_up;
 
 // All lines of an accepted scene.
 fn put_accepted(text: &mut [u8], s: &[u8], account: &[u32; 1488], m: Summary) -> usize
-    requires { ⌜ (scene (now s) ≡ accepted (objectsOf (scene (now s)))) × SummedUp (objectsOf (scene (now s))) m (now account) × (length (now s) ≤ 4096) × (25743 ≤ length (now text)) ⌝ }
+    requires { ⌜ (scene (now s) ≡ accepted (objectsOf (scene (now s)))) × SummedUp (objectsOf (scene (now s))) m (now account)
+        × (length (now s) ≤ 4096) × (25743 ≤ length (now text)) ⌝ }
     ensures { λ r. ⌜ Wrote (now (text .entry)) 0 (objectsText (objectsOf (scene (now (s .entry))))) (now (text .exit)) r × (r ≤ 25743) ⌝ }
 {
     let at = put_objects(text, s, account, m.objects);

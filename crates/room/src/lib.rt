@@ -7,32 +7,19 @@ ghost use Rattle.answers.specs.Answers.{countsFrom, lengthsFrom};
 ghost use Rattle.most.specs.Most.{together, numbersOf, Few};
 use answers::Counted;
 use answers::Lengths;
+use answers::numbers_for;
 use most::Most;
 use most::add;
 use rows::Refusal;
 use scene_mesh::Room;
 
-// The numbers that n objects take in each buffer, which come to so much.
-pub fn numbers_of(m: Most, n: u32) -> Counted
-    requires { ⌜ Few m 33554432 131072 × (n ≤ 65536) ⌝ }
-    ensures { λ r. ⌜ countsFrom r ≡ numbersOf m n ⌝ }
-{
-    Counted {
-        vertices: 3 * m.vertices,
-        normals: 3 * m.vertices,
-        indices: 3 * m.triangles,
-        spans: 5 * m.spans,
-        account: 4 * n,
-        log: 4 * m.entries,
-    }
-}
-
-// By what the two parts of them come to.
+// The numbers that n objects take in each buffer, by what the two parts of them come to.
 pub fn bound_counts(others: Most, lids: Most, n: u32) -> Counted
     requires { ⌜ Few others 16777216 65536 × Few lids 16777216 65536 × (n ≤ 65536) ⌝ }
     ensures { λ r. ⌜ countsFrom r ≡ numbersOf (together others lids) n ⌝ }
 {
-    numbers_of(add(others, lids), n)
+    let m = add(others, lids);
+    numbers_for(m.vertices, m.triangles, m.spans, n, m.entries)
 }
 
 // Whether a buffer that holds `has` numbers is too short for n.

@@ -74,13 +74,19 @@ accountsOf limit os = map (accountOf limit) os
 unfoldable pub logsOf : List Object → List Entry
 logsOf os = join (λ (o : Object). logOf (o .shape)) os
 
--- ---- spans and accounts as numbers in the lent buffers, five and four to one
+-- ---- spans and accounts as numbers in the lent buffers, so many to one
+
+abbrev pub spanWidth : ℕ
+spanWidth = 5
 
 abbrev pub spanRecord : Span → List ℕ
 spanRecord s = s .id ∷ s .vertexStart ∷ s .vertexEnd ∷ s .indexStart ∷ s .indexEnd ∷ []
 
 unfoldable pub spanNumbers : List Span → List ℕ
 spanNumbers ss = join spanRecord ss
+
+abbrev pub accountWidth : ℕ
+accountWidth = 4
 
 abbrev pub accountRecord : Account → List ℕ
 accountRecord a = a .offered ∷ a .kept ∷ a .thin ∷ a .entries ∷ []
@@ -91,13 +97,17 @@ accountNumbers list = join accountRecord list
 -- and read back
 
 abbrev pub spanAt : List ℕ → ℕ → Span
-spanAt ns k = record { id = getD ns (5 * k) 0; vertexStart = getD ns (5 * k + 1) 0; vertexEnd = getD ns (5 * k + 2) 0; indexStart = getD ns (5 * k + 3) 0; indexEnd = getD ns (5 * k + 4) 0 }
+spanAt ns k =
+    let i = spanWidth * k in
+    record { id = getD ns i 0; vertexStart = getD ns (i + 1) 0; vertexEnd = getD ns (i + 2) 0; indexStart = getD ns (i + 3) 0; indexEnd = getD ns (i + 4) 0 }
 
 unfoldable pub spansIn : List ℕ → List Span
-spansIn ns = list (spanAt ns) (length ns / 5) 0
+spansIn ns = list (spanAt ns) (length ns / spanWidth) 0
 
 abbrev pub accountAt : List ℕ → ℕ → Account
-accountAt ns k = record { offered = getD ns (4 * k) 0; kept = getD ns (4 * k + 1) 0; thin = getD ns (4 * k + 2) 0; entries = getD ns (4 * k + 3) 0 }
+accountAt ns k =
+    let i = accountWidth * k in
+    record { offered = getD ns i 0; kept = getD ns (i + 1) 0; thin = getD ns (i + 2) 0; entries = getD ns (i + 3) 0 }
 
 unfoldable pub accountsIn : List ℕ → List Account
-accountsIn ns = list (accountAt ns) (length ns / 4) 0
+accountsIn ns = list (accountAt ns) (length ns / accountWidth) 0

@@ -20,7 +20,7 @@ use Rattle.object.specs.declared.Orientation.{Orientation}
 use Rattle.object.specs.Object.{frame, Shape, solid, outline, sweep, roundSweep}
 use Rattle.face.specs.declared.Tally.{Tally}
 use Rattle.face.specs.Faces.{Triangle, Face}
-use Rattle.face.specs.Drawing.{tally, Drawing, counted, Drew, entering, leaving}
+use Rattle.face.specs.Drawing.{tally, Drawing, counted, Drew, atEntry, atExit}
 use Rattle.flattening.specs.Plane.{topsOf, basesOf, lidNormal}
 use Rattle.shapes.specs.Shapes.{Axis, alongX, alongY, alongZ, onAxis, boxFace, ringAt, cylinderSide, endFace, outerWalls, holeWalls, allCorners, outlineLid, hasHeight, pairs, pairFaces, sweepCaps, ellipse, tubeFaces, tubeCaps}
 
@@ -117,7 +117,7 @@ lastOf after = getD after 5 (tally 0 0 0)
 
 -- the stages were drawn into the lent slices: six with these counts after each, or two with counts u and w
 abbrev pub DrawsStages : Float → List PartRun → ℕ → Tally → List Tally → Slice Float → Slice Float → Slice ℕ → Type 0
-DrawsStages limit stages before t after vs ns is = DrewStages limit stages before (entering t vs ns is) (leaving (lastOf after) vs ns is) after
+DrawsStages limit stages before t after vs ns is = DrewStages limit stages before (atEntry t vs ns is) (atExit (lastOf after) vs ns is) after
 
 abbrev pub DrawsTwo : Float → List PartRun → ℕ → Tally → Tally → Tally → Slice Float → Slice Float → Slice ℕ → Type 0
-DrawsTwo limit stages before t u w vs ns is = DrewStages limit stages before (entering t vs ns is) (leaving w vs ns is) (u ∷ w ∷ [])
+DrawsTwo limit stages before t u w vs ns is = DrewStages limit stages before (atEntry t vs ns is) (atExit w vs ns is) (u ∷ w ∷ [])

@@ -2,23 +2,25 @@
 ghost use mathlib.Core.Path.{_≡_};
 ghost use Prim.Native.Nat.{_+_, _*_, _<_, _^_};
 ghost use lib.Seq.{sets};
-ghost use Rattle.scene_mesh.specs.Mesh.{spanNumbers};
+ghost use Rattle.scene_mesh.specs.Mesh.{spanWidth, accountWidth, spanNumbers};
 ghost use Rattle.progress.specs.Pass.{spanBy, cameTo, accountBy};
 use face::Tally;
 use numbers::put_four;
 use numbers::put_number;
 use progress::Progress;
+use scene_mesh::ACCOUNT_WIDTH;
+use scene_mesh::SPAN_WIDTH;
 use shapes::Drawn;
 
 // The span of an object that came to t, if it has one.
 pub fn put_span(id: u32, p: Progress, t: Tally, spans: &mut [u32])
     requires { ⌜ (p .vertices + t .vertices < 2 ^ 32) × (3 * (p .kept + t .kept) < 2 ^ 32) ⌝ }
-    ensures { λ _. ⌜ now (spans .exit) ≡ sets (now (spans .entry)) (5 * p .spans) (spanNumbers (spanBy id p t)) ⌝ }
+    ensures { λ _. ⌜ now (spans .exit) ≡ sets (now (spans .entry)) (spanWidth * p .spans) (spanNumbers (spanBy id p t)) ⌝ }
 {
     if t.kept == 0 {
         return;
     }
-    let at = 5 * (p.spans as usize);
+    let at = SPAN_WIDTH * (p.spans as usize);
     put_four(
         spans,
         at,
@@ -32,13 +34,13 @@ pub fn put_span(id: u32, p: Progress, t: Tally, spans: &mut [u32])
 
 // The account of object number n.
 pub fn put_account(n: u32, d: Drawn, account: &mut [u32])
-    ensures { λ _. ⌜ now (account .exit) ≡ sets (now (account .entry)) (4 * n) (accountBy (cameTo d)) ⌝ }
+    ensures { λ _. ⌜ now (account .exit) ≡ sets (now (account .entry)) (accountWidth * n) (accountBy (cameTo d)) ⌝ }
 {
     let after = d.after;
     let t = after[5];
     put_four(
         account,
-        4 * (n as usize),
+        ACCOUNT_WIDTH * (n as usize),
         d.offered,
         t.kept,
         t.thin,

@@ -1,7 +1,8 @@
 -- `build::plan_parts` meets its contract. Assumes nothing.
 use mathlib.Core.Path.{sym, _∙_}
 use borrow.Author.Needs.{needs}
-use Rattle.build.proofs.Built.{few-fit, plan-complete, plan-short}
+use Rattle.most.proofs.Few.{few-fit}
+use Rattle.build.proofs.Built.{plan-complete, plan-short}
 use Rattle.build.proofs.plan_parts.Statement.{statement}
 use Rattle.build.proofs.plan_parts.Tie as tie
 

@@ -106,10 +106,10 @@ module _ {limit : Float} {s : List ℕ} {p : Progress} (a : CanAdd limit s p) wh
         let i = a .inside in
         let n = a .short in
         let v = next-fits .vertices in
-        let k = next-fits .kept in
-        let l = next-fits .entries in
+        let k = next-fits .indices in
+        let l = next-fits .log in
         let ss = next-fits .spans in
-        let o = next-fits .objects in
+        let o = next-fits .account in
         subst (λ (x : Header). CanAdvance p (x .size) d) (sym e)
         (record { at = omega arith; objects = omega arith; vertices = omega arith; kept = omega arith; spans = omega arith; entries = omega arith })
 

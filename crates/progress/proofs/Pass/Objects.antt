@@ -15,10 +15,10 @@ use Rattle.lid.specs.Log.{entryRecord, logNumbers}
 use Rattle.shapes.specs.Shapes.{logOf}
 use Rattle.progress.specs.declared.Progress.{Progress}
 use Rattle.scene_mesh.specs.Mesh.{Mesh, keptBy, accountOf, pieceOf, spanOf, addPiece, meshFrom, meshOf, accountsOf, logsOf, spanRecord, spanNumbers, accountRecord, accountNumbers}
-use Rattle.scene_mesh.specs.PerBuffer.{numbersFor, Buffers}
+use Rattle.scene_mesh.specs.PerBuffer.{Buffers, FitCounts}
 use Rattle.scene_mesh.specs.Operations.{written, output, countsOf}
-use Rattle.progress.specs.Pass.{Pass, passOf, begun, storedBehind, withObject, withObjects, Fits}
-use Rattle.progress.specs.Wrote.{countedBy, stored, WroteAll, FitCounts}
+use Rattle.progress.specs.Pass.{Pass, passOf, begun, storedBehind, withObject, withObjects, passedBy, Fits}
+use Rattle.progress.specs.Wrote.{countedBy, stored, WroteAll}
 use Rattle.answers.specs.declared.Counted.{Counted}
 use Rattle.answers.specs.Answers.{countsFrom}
 use Rattle.scene_mesh.proofs.Demand3.Spans.{piece-size}
@@ -106,20 +106,20 @@ module _ (limit : Float) where
   unfolding withObjects
   fewer-fit os st f =
       let v = f .vertices in
-      let k = f .kept in
+      let k = f .indices in
       let s = f .spans in
-      let o = f .objects in
-      let e = f .entries in
-      record { vertices = omega arith; kept = omega arith; spans = omega arith; objects = omega arith; entries = omega arith }
+      let o = f .account in
+      let e = f .log in
+      record { vertices = omega arith; normals = omega arith; indices = omega arith; spans = omega arith; account = omega arith; log = omega arith }
 
   -- whatever the buffers hold
   pub other-buffers : (o : Object) (p : Progress) (b c : Buffers) → Fits (withObject limit o (passOf p b)) → Fits (withObject limit o (passOf p c))
   unfolding withObject
-  other-buffers o p b c f = record { vertices = f .vertices; kept = f .kept; spans = f .spans; objects = f .objects; entries = f .entries }
+  other-buffers o p b c f = f
 
   pub others-buffers : (os : List Object) (p : Progress) (b c : Buffers) → Fits (withObjects limit os (passOf p b)) → Fits (withObjects limit os (passOf p c))
   unfolding withObjects
-  others-buffers os p b c f = record { vertices = f .vertices; kept = f .kept; spans = f .spans; objects = f .objects; entries = f .entries }
+  others-buffers os p b c f = f
 
   -- the buffers keep their lengths
   pub objects-lengths : (os : List Object) (st : Pass) → countsOf (withObjects limit os st .buffers) ≡ countsOf (st .buffers)
@@ -135,7 +135,7 @@ module _ (limit : Float) where
   module _ (os : List Object) (p : Progress) (b b′ : Buffers) (e : passOf p b′ ≡ withObjects limit os (begun b)) where
     counts-are : countedBy p ≡ countsOf (output limit os)
     unfolding withObjects
-    counts-are = ap (λ (st : Pass). numbersFor (st .vertices) (st .kept) (st .spans) (st .objects) (st .entries)) e ∙ (simp zero-add (output-counts limit os))
+    counts-are = ap passedBy e ∙ (simp zero-add (output-counts limit os))
 
     pub wrote-all : {c : Counted} → countsFrom c ≡ countedBy p → WroteAll limit os c b b′
     unfolding withObjects stored output meshOf
@@ -144,11 +144,4 @@ module _ (limit : Float) where
 -- what the numbers in the buffers tell of the objects' counts
 pub counts-fit : (limit : Float) (os : List Object) (b : Buffers) → FitCounts (countsOf (output limit os)) → Fits (withObjects limit os (begun b))
 unfolding withObjects
-counts-fit limit os b f =
-    let g = subst FitCounts (sym (output-counts limit os)) f in
-    let v = g .vertices in
-    let k = g .indices in
-    let s = g .spans in
-    let o = g .account in
-    let e = g .log in
-    record { vertices = omega arith; kept = omega arith; spans = omega arith; objects = omega arith; entries = omega arith }
+counts-fit limit os b f = simp zero-add (subst FitCounts (sym (output-counts limit os)) f)

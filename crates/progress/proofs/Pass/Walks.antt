@@ -57,7 +57,7 @@ unfolding withObjects
 end-fits limit s n p h c =
     let q = checked-accepted s n h in
     let size = q .size in
-    let f = c (objectsOf (scene s)) (lent [] [] [] [] [] []) (q .is) .objects in
+    let f = c (objectsOf (scene s)) (lent [] [] [] [] [] []) (q .is) .account in
     omega arith
 
 module _ {limit : Float} {s : List ℕ} {n : ℕ} {p₀ : Progress} {b₀ b : Buffers} {p : Progress} (w : Walks limit s n p₀ b₀ b p) where

@@ -7,8 +7,7 @@ use Rattle.build.proofs.pass.write_objects.Tie as tie
 count-numbers-requires : tie.Need-count-numbers-requires
 count-numbers-requires c κs =
     let a = c .before .before .before .before .before .before .before .before .before .before .before .before .before .before .before .before .before .before .before .before .before .before .before .before .before .before .args in
-    let f = added-fits (a .limit) (a .s .now) (a .n) (c .before .before .before .before .before .before .before .before .before .before .before .before .before .before .before .before .before .before .before .before .before .before .before .before .before .before .pre .0) (c .before .before .before .before .before .before .before .before .before .before .before .before .before .before .before .before .before .before .before .before .before .before .before .before .before .before .pre .1) (c .before .before .before .before .before .before .before .before .before .before .before .before .write-behind .ensures) in
-    (f .vertices, f .kept, f .spans, f .objects, f .entries)
+    added-fits (a .limit) (a .s .now) (a .n) (c .before .before .before .before .before .before .before .before .before .before .before .before .before .before .before .before .before .before .before .before .before .before .before .before .before .before .pre .0) (c .before .before .before .before .before .before .before .before .before .before .before .before .before .before .before .before .before .before .before .before .before .before .before .before .before .before .pre .1) (c .before .before .before .before .before .before .before .before .before .before .before .before .write-behind .ensures)
 
 returns : tie.Need-returns
 returns c = λ os e. added-wrote (c .count-numbers .ensures) (c .before .before .before .before .before .before .before .before .before .before .before .before .before .write-behind .ensures os e)
