@@ -12,6 +12,7 @@ ghost use Rattle.boxes.specs.Quads.{quadOf};
 use coords::Point;
 use face::Tally;
 use object::Orientation;
+use shapes::StageTallies;
 use vectors::Vector;
 
 // A box's place, turn and sizes.
@@ -130,7 +131,7 @@ fn box_sides(
 }
 
 // The counts across the three axes in order.
-fn six(x: Sides, y: Sides, z: Sides) -> [Tally; 6]
+fn six(x: Sides, y: Sides, z: Sides) -> StageTallies
     ensures { λ r. ⌜ r ≡ x .along ∷ x .against ∷ y .along ∷ y .against ∷ z .along ∷ z .against ∷ [] ⌝ }
 {
     let a = x.along;
@@ -156,7 +157,7 @@ pub fn cuboid(
     vs: &mut [f32],
     ns: &mut [f32],
     is: &mut [u32],
-) -> [Tally; 6]
+) -> StageTallies
     requires { ⌜ Room before t 24 12 ⌝ }
     ensures { λ r. ⌜ DrawsStages limit (boxStages origin turn length width height) before t r vs ns is ⌝ }
 {

@@ -15,6 +15,7 @@ use ends::end;
 use face::Tally;
 use faces::quad;
 use object::Orientation;
+use shapes::StageTallies;
 use vectors::Vector;
 
 fn ring_point(origin: Point, turn: Orientation, radius: f32, z: f32, k: usize) -> Point
@@ -99,7 +100,7 @@ pub fn cylinder(
     vs: &mut [f32],
     ns: &mut [f32],
     is: &mut [u32],
-) -> [Tally; 6]
+) -> StageTallies
     requires { ⌜ Room before t 96 60 ⌝ }
     ensures { λ r. ⌜ DrawsStages limit (cylinderStages turn (ringAt origin turn radius zerof) (ringAt origin turn radius height) height) before t r vs ns is ⌝ }
 {

@@ -3,7 +3,7 @@ use Prim.Native.Nat.{ℕ}
 use mathlib.Core.Bool.{Bool, true, false, cond}
 use mathlib.Core.List.{List, _++_}
 use Rattle.validation.specs.declared.Validation.{Validation}
-use Rattle.validation.specs.declared.Validation.the-variants.{Judged, PartialVertex}
+use Rattle.validation.specs.declared.Validation.the-variants.{Judged, Refused}
 use Rattle.validation.specs.declared.Verdict.the-variants.{Ok, Empty, NonFiniteVertex, IndexOutOfRange, DegenerateTriangle}
 use Rattle.quote_lines.specs.Words.{ascii, field}
 
@@ -26,7 +26,7 @@ isOk (Judged Empty) = false
 isOk (Judged (NonFiniteVertex i)) = false
 isOk (Judged (IndexOutOfRange t i n)) = false
 isOk (Judged (DegenerateTriangle t)) = false
-isOk PartialVertex = false
+isOk (Refused f) = false
 
 unfoldable pub verdictLine : Bool → List ℕ
 verdictLine ok = cond ok (ascii "verdict ok\n") (ascii "verdict empty\n")

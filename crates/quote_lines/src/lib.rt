@@ -73,7 +73,7 @@ pub fn is_ok(v: Validation) -> bool
             Verdict::IndexOutOfRange(_, _, _) => false,
             Verdict::DegenerateTriangle(_) => false,
         },
-        Validation::PartialVertex => false,
+        Validation::Refused(_) => false,
     }
 }
 

@@ -12,6 +12,9 @@ use scene_mesh::ACCOUNT_WIDTH;
 use scene_mesh::SPAN_WIDTH;
 use validation::Validation;
 
+// The account of every scene of at most 4,096 bytes.
+pub type Account = [u32; 1488];
+
 pub struct Summary {
     pub refusal: u32,
     pub objects: usize,
@@ -36,7 +39,7 @@ fn summary_of(a: Answer, v: Validation) -> Summary
 }
 
 // Build and Validate, with working buffers of `roomFor 4096` numbers.
-pub fn sum_up(s: &[u8], account: &mut [u32; 1488]) -> Summary
+pub fn sum_up(s: &[u8], account: &mut Account) -> Summary
     requires { ⌜ length (now s) ≤ 4096 ⌝ }
     ensures { λ r. ⌜ Summed (now (s .entry)) r (now (account .exit)) ⌝ }
 {

@@ -29,8 +29,8 @@ use Rattle.scene_mesh.proofs.Demand3.Accounts.{price-is-kept-and-thin}
 use Rattle.scene_mesh.proofs.MeshSizes.{mesh-indices}
 use Rattle.decimals.specs.Decimals.{decimal}
 use Rattle.quote_room.specs.Room.{objectsMost}
-use Rattle.quote_room.proofs.Comes.{sized-here}
-use Rattle.quote_room.proofs.Enough.{scene-comes, few-objects}
+use Rattle.scene_mesh.proofs.Comes.{sized-here, scene-comes}
+use Rattle.quote_room.proofs.Enough.{few-objects}
 use Rattle.quote_lines.specs.Words.{ascii, field}
 use Rattle.quote_lines.specs.Lines.{refusedLine, accountLine, countsLine, isOk, verdictLine}
 use Rattle.quote_lines.proofs.Pieces.{ten-digits}
@@ -116,7 +116,7 @@ module _ (s : List ℕ) (bytes : Bytes s) (l : length s ≤ 4096) where
   unfolding objectsText meshLine meshOf objectsMost
   accepted-most os h =
       let a = accepted-scene s os h in
-      let c = scene-comes s os h .1 in
+      let c = scene-comes minArea s os h .1 in
       let m = meshFrom minArea 0 0 os in
       let few = few-objects s os 4096 h l in
       let lines = lines-most os (walk-short bytes (a .size) (omega (arith, trailer-inside s (countAt s))) (countAt s) 0 0 (sub-zero (countAt s)) (a .begins)) in

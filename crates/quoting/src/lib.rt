@@ -13,11 +13,15 @@ use quote_lines::put_counts;
 use quote_lines::put_refused;
 use quote_lines::put_verdict;
 use quote_objects::put_objects;
+use quote_summary::Account;
 use quote_summary::Summary;
 use quote_summary::sum_up;
 
+// Room for the text of every scene of at most 4,096 bytes.
+pub type Text = [u8; 25743];
+
 // All lines of an accepted scene.
-fn put_accepted(text: &mut [u8], s: &[u8], account: &[u32; 1488], m: Summary) -> usize
+fn put_accepted(text: &mut [u8], s: &[u8], account: &Account, m: Summary) -> usize
     requires { ⌜ (scene (now s) ≡ accepted (objectsOf (scene (now s)))) × SummedUp (objectsOf (scene (now s))) m (now account)
         × (length (now s) ≤ 4096) × (25743 ≤ length (now text)) ⌝ }
     ensures { λ r. ⌜ Wrote (now (text .entry)) 0 (objectsText (objectsOf (scene (now (s .entry))))) (now (text .exit)) r × (r ≤ 25743) ⌝ }
@@ -41,7 +45,7 @@ fn put_scene(text: &mut [u8], s: &[u8]) -> usize
 
 // The text of a scene, from the start of the array on, and its length; the rest of the array keeps
 // its contents.
-pub fn quote(s: &[u8], text: &mut [u8; 25743]) -> usize
+pub fn quote(s: &[u8], text: &mut Text) -> usize
     ensures { λ r. ⌜ (r ≡ length (quoteText (now (s .entry)))) × (now (text .exit) ≡ over (quoteText (now (s .entry))) (now (text .entry))) × (r ≤ 25743) ⌝ }
 {
     if 4096 < s.len() {

@@ -17,6 +17,7 @@ use coords::Point;
 use face::Tally;
 use geometry::section_at;
 use neighbours::places_of;
+use shapes::StageTallies;
 
 fn centre_at(s: &[u8], i: usize) -> Point
     requires { ⌜ i + 48 ≤ length (now s) ⌝ }
@@ -37,7 +38,7 @@ pub fn round_sweep(
     vs: &mut [f32],
     ns: &mut [f32],
     is: &mut [u32],
-) -> [Tally; 6]
+) -> StageTallies
     requires { ⌜ (at + 48 * n ≤ length (now s)) × Room before t (64 * n) (32 * n) ⌝ }
     ensures { λ r. ⌜ DrawsStages limit (roundStages (sectionsAt (now (s .entry)) n at)) before t r vs ns is ⌝ }
 {

@@ -3,3 +3,4 @@ pub mod Demand3
 pub mod Vertices
 pub mod Lending
 pub mod MeshSizes
+pub mod Comes

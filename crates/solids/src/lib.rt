@@ -8,6 +8,7 @@ use boxes::cuboid;
 use cylinders::cylinder;
 use face::Tally;
 use object::Extent;
+use shapes::StageTallies;
 
 // A solid whose position and orientation lie at i of the scene's bytes: what was written and counted
 // after each stage.
@@ -21,7 +22,7 @@ pub fn solid(
     vs: &mut [f32],
     ns: &mut [f32],
     is: &mut [u32],
-) -> [Tally; 6]
+) -> StageTallies
     requires { ⌜ (i + 60 ≤ length (now s)) × Room before t 96 60 ⌝ }
     ensures { λ r. ⌜ DrawsStages limit (solidStages (pointAt (now (s .entry)) i) (orientationAt (now (s .entry)) (i + 12)) extent) before t r vs ns is ⌝ }
 {

@@ -20,6 +20,7 @@ use neighbours::places_of;
 use object::Section;
 use sections::is_flat;
 use sections::is_thin;
+use shapes::StageTallies;
 use vectors::Vector;
 
 // To the left of the way from a to b.
@@ -121,7 +122,7 @@ pub fn sweep(
     vs: &mut [f32],
     ns: &mut [f32],
     is: &mut [u32],
-) -> [Tally; 6]
+) -> StageTallies
     requires { ⌜ (at + 48 * n ≤ length (now s)) × Room before t (16 * n) (8 * n) ⌝ }
     ensures { λ r. ⌜ DrawsStages limit (sweepStages (sectionsAt (now (s .entry)) n at)) before t r vs ns is ⌝ }
 {

@@ -1,8 +1,9 @@
--- What objects come to, by the bytes of their records, at every limit. Assumes nothing.
+-- What the objects of an accepted scene come to, by the bytes of their records, at every limit: all counts fit u32. Assumes nothing.
 use mathlib.Core.Path.{_≡_, sym, subst}
 use mathlib.Core.Bool.{Bool, true, false, cond}
 use mathlib.Core.List.{List, [], _∷_}
 use Prim.Native.Nat.{ℕ, zero, suc, _+_, _-_, _*_, _≤_, _<_, zero-le}
+use native.Mathlib.Nat.{sub-zero}
 use native.Mathlib.Omega.{arith}
 use lib.Dec.{eqb}
 use lib.ListN.{length, getD, drop, length-append, drop-of-length-le}
@@ -12,12 +13,16 @@ use Rattle.object.specs.Object.{Object}
 use Rattle.scene.specs.declared.headers.Body.{Body}
 use Rattle.scene.specs.declared.headers.Body.the-variants.{Solid, Outline, Sweep}
 use Rattle.scene.specs.Headers.{bodyAt, bodySize, headerAt, objectOf}
-use Rattle.scene.proofs.Walk.{Walking, walk-object, walk-next, walk-limits, walk-inside}
+use Rattle.scene.specs.Scene.{accepted, scene, trailer, countAt}
+use Rattle.scene.proofs.Walk.{Walking, walk-object, walk-next, walk-limits, walk-inside, accepted-scene}
 use Rattle.face.proofs.Counts.{faces-account}
 use Rattle.face.proofs.Draws.{vertices-most}
 use Rattle.shapes.specs.Shapes.{facesOf, logOf}
 use Rattle.shapes.proofs.Sizes.{Sized, body-sized}
 use Rattle.scene_mesh.specs.Mesh.{Span, keptBy, pieceOf, spanOf, addPiece, meshFrom, logsOf}
+use Rattle.scene_mesh.specs.PerBuffer.{FitCounts}
+use Rattle.scene_mesh.specs.Operations.{output, countsOf}
+use Rattle.scene_mesh.proofs.MeshSizes.{output-counts}
 
 -- ---- a record's bytes
 
@@ -84,3 +89,27 @@ module _ (limit : Float) where
         let bytes : size + (e - (i + size)) ≡ e - i = omega arith in
         let c = comes-more (objectOf s i (headerAt s i)) (drop (k + 1) os) size (e - (i + size)) (record-least s i) (sized-here w l) (walk-comes m (k + 1) (i + size) (omega arith) inside (walk-next w l)) in
         rw (walk-object w l, ← bytes) c
+
+  -- the records of an accepted scene take what the trailer, of 4 bytes for each object and 4, leaves
+  module _ (s : List ℕ) (os : List Object) (h : scene s ≡ accepted os) where
+    pub scene-comes : (4 * length os + 4 ≤ length s) × Comes os (length s - (4 * length os + 4))
+    unfolding trailer
+    scene-comes =
+        let a = accepted-scene s os h in
+        let n = countAt s in
+        let size = a .size in
+        let c = walk-comes (a .size) n 0 0 (sub-zero n) zero-le (a .begins) in
+        let bytes : length s - (4 * n + 4) - 0 ≡ length s - (4 * length os + 4) = omega arith in
+        (omega (arith, a .room), subst (Comes os) bytes c)
+
+    -- document 01, section 1: all counts then fit u32
+    pub accepted-fits : FitCounts (countsOf (output limit os))
+    accepted-fits =
+        let a = accepted-scene s os h in
+        let c = scene-comes .1 in
+        let size = a .size in
+        let few = a .few in
+        let short = a .short in
+        let v = c .vertices 0 0 in
+        subst FitCounts (output-counts limit os)
+        (record { vertices = omega arith; normals = omega arith; indices = omega (arith, c .kept); spans = omega (arith, c .spans 0 0); account = omega arith; log = omega (arith, c .entries) })

@@ -1,1 +1,0 @@
-// Document 01, section 1: all counts of an accepted scene fit u32. See proofs/.
