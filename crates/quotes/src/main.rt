@@ -31,7 +31,7 @@ fn one(fd: i32) -> bool {
 
 fn main() {
     let fd = os::open_read(b"scenes");
-    for _ in 0..100000 {
+    for _ in 0u32..100000 {
         if !one(fd) {
             return;
         }

@@ -12,4 +12,4 @@ returns c = let a = c .before .before .before .before .before .args .a in ap (λ
 pub summary-of-spec : {M : Type 1} → statement M
 summary-of-spec =
     tie.close
-    (tie.spec (λ c. search needs) (λ c κs. search needs) returns)
+    (tie.spec (λ c. search needs) (λ c. search needs) (λ c. search needs) (λ c κs. search needs) returns)

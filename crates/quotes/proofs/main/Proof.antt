@@ -1,15 +1,14 @@
 -- `quotes::main` is safe and ends. Assumes nothing.
 use Prim.Native.Nat.{_-_, _≤_}
-use lib.ListN.{length}
 use borrow.Author.Needs.{needs}
 use Rattle.quotes.proofs.main.Statement.{statement}
 use Rattle.quotes.proofs.main.Tie as tie
 
 abbrev Inv-loop : tie.InvT-loop
-Inv-loop fd turns₀ turns = turns ≤ 100000
+Inv-loop fd turn₀ turn = turn ≤ 100000
 
 abbrev μ-loop : tie.MeasureT-loop
-μ-loop fd turns₀ turns = 100000 - turns
+μ-loop fd turn₀ turn = 100000 - turn
 
 pub main-spec : {M : Type 1} → statement M
 main-spec =

@@ -11,5 +11,5 @@ slice-aggregate-quote-next c = sym (length-take-le _ _ (search needs))
 pub one-spec : {M : Type 1} → statement M
 one-spec =
     tie.close
-    (tie.spec (λ c κs. search needs) (λ c. search needs) (λ c. search needs) (λ c. search needs) (λ c. search needs) (λ c. search needs)
+    (tie.spec (λ c. search needs) (λ c κs. search needs) (λ c. search needs) (λ c. search needs) (λ c κs. search needs) (λ c. search needs) (λ c. search needs)
     (λ c. search needs) slice-aggregate-quote-next (λ c κs. search needs) (λ c. search needs))
