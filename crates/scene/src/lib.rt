@@ -4,6 +4,7 @@ ghost use mathlib.Core.Path.{_≡_};
 ghost use Rattle.scene.specs.Scene.{numberOf};
 
 pub mod headers;
+pub mod layout;
 pub mod records;
 pub mod scenes;
 
