@@ -18,7 +18,7 @@ use Rattle.scene.specs.declared.headers.Body.the-variants.{Solid, Outlin
 use Rattle.fields.specs.Layout.{mostHoles, mostCorners, mostSections, cornerBytes, sectionBytes, positionBytes, orientationBytes, sizesFrom}
 use Rattle.fields.specs.Fields.{u16At, u32At, boxAt, cylinderAt, countsAt, all32}
 use Rattle.scene.specs.Scene.{Record, bad, good, rest, solidAt, outlineCorners, outlineAt, sweepAt, kindAt, recordAt}
-use Rattle.scene.specs.Headers.{solidFrom, cornerTotal, outlineFrom, volumeSize, bodySize, bodyAt, shapeOf, objectOf, headerAt, Limits}
+use Rattle.scene.specs.Headers.{solidFrom, cornerCount, outlineFrom, volumeSize, bodySize, bodyAt, shapeOf, objectOf, headerAt, Limits}
 
 -- what holds on both sides of a test that is made twice holds of its outcomes
 both : {A B : Type 0} (P : A → B → Type 0) (t : Bool) {x y : A} {r q : B} → P x r → P y q → P (cond t x y) (cond t r q)
@@ -50,10 +50,10 @@ module _ (s : List ℕ) (e : ℕ) where
       sized i w v q = omega arith
 
   corners-described : (id : ℕ) (closed : Bool) (i c holes : ℕ) → holes ≤ mostHoles
-      → Described id i (Outline closed c holes (cornerTotal s i c holes)) (outlineCorners s e id closed c (countsAt s holes (i + 4)) (i + 4 + 2 * holes))
+      → Described id i (Outline closed c holes (cornerCount s i c holes)) (outlineCorners s e id closed c (countsAt s holes (i + 4)) (i + 4 + 2 * holes))
   unfolding outlineCorners
   corners-described id closed i c holes h =
-      let n = cornerTotal s i c holes in
+      let n = cornerCount s i c holes in
       either-by (Described id i (Outline closed c holes n)) (ltb mostCorners n) {x = bad Counts} (λ t. tt)
       (λ f. rest-described id i (i + 4 + 2 * holes) (cornerBytes * n) _ (Outline closed c holes n) (sized i holes n) (record { total = refl; few = h; most = ltb-false mostCorners n f }))
     where

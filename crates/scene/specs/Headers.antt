@@ -24,11 +24,11 @@ abbrev pub solidFrom : ℕ → Extent → SolidAt
 solidFrom i x = record { position = i; orientation = orientationFrom i; sizes = sizesFrom i; extent = x }
 
 -- an outline, its counts at place i
-abbrev pub cornerTotal : List ℕ → ℕ → ℕ → ℕ → ℕ
-cornerTotal s i outer holes = outer + sumOf (λ k. k) (countsAt s holes (i + 4))
+abbrev pub cornerCount : List ℕ → ℕ → ℕ → ℕ → ℕ
+cornerCount s i outer holes = outer + sumOf (λ k. k) (countsAt s holes (i + 4))
 
 abbrev pub outlineFrom : List ℕ → ℕ → Bool → Body
-outlineFrom s i closed = Outline closed (u16At s i) (u16At s (i + 2)) (cornerTotal s i (u16At s i) (u16At s (i + 2)))
+outlineFrom s i closed = Outline closed (u16At s i) (u16At s (i + 2)) (cornerCount s i (u16At s i) (u16At s (i + 2)))
 
 -- The body of a record of a kind. A kind above 6, which no accepted scene has, reads as 6.
 unfoldable pub bodyAt : List ℕ → ℕ → ℕ → Body
@@ -83,7 +83,7 @@ pub record Laid (i : ℕ) (p : SolidAt) : Type 0 where
 
 -- an outline's corners are counted, and within the limits of document 01, section 1
 pub record Counted (s : List ℕ) (i outer holes corners : ℕ) : Type 0 where
-  pub total : corners ≡ cornerTotal s i outer holes
+  pub total : corners ≡ cornerCount s i outer holes
   pub few : holes ≤ mostHoles
   pub most : corners ≤ mostCorners
 
