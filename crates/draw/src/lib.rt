@@ -4,8 +4,8 @@ ghost use mathlib.Core.Bool.{cond};
 ghost use mathlib.Core.List.{List};
 ghost use Prim.Native.Nat.{ℕ, _+_, _*_, _≤_, _<_, _^_};
 ghost use lib.ListN.{length};
-ghost use Rattle.object.specs.Object.{solid, sweep, roundSweep};
-ghost use Rattle.fields.specs.Fields.{pointAt, orientationAt, sectionsAt};
+ghost use Rattle.object.specs.Object.{sweep, roundSweep};
+ghost use Rattle.fields.specs.Fields.{sectionsAt};
 ghost use Rattle.scene.specs.Headers.{shapeOf};
 ghost use Rattle.shapes.specs.Drawn.{CanDraw, DrewObject};
 ghost use Rattle.shapes.specs.Stages.{firstOf};
@@ -83,10 +83,11 @@ pub fn draw(
     ensures { λ r. ⌜ DrewObject limit (shapeOf (now (s .entry)) i body) before (now (vs .entry)) (now (ns .entry)) (now (is .entry)) (now (log .entry)) r (now (vs .exit)) (now (ns .exit)) (now (is .exit)) (now (log .exit)) ⌝ }
 {
     match body {
-        Body::Solid(extent) => {
+        Body::Solid(p) => {
+            let extent = p.extent;
             let offered = solid_price(extent);
             let first = first_part(extent);
-            let after = solid(s, i, extent, limit, before, NOTHING, vs, ns, is);
+            let after = solid(s, p, limit, before, NOTHING, vs, ns, is);
             Drawn {
                 first,
                 after,
@@ -98,7 +99,23 @@ pub fn draw(
             closed,
             outer,
             holes,
-        } => { outline(s, i, closed, outer, holes, limit, before, vs, ns, is, log) }
+            corners,
+        } => {
+            outline(
+                s,
+                i,
+                closed,
+                outer,
+                holes,
+                corners,
+                limit,
+                before,
+                vs,
+                ns,
+                is,
+                log,
+            )
+        }
         Body::Sweep { round, sections } => {
             let n = sections as usize;
             draw_sections(s, i + 2, round, n, limit, before, vs, ns, is)

@@ -1,37 +1,9 @@
 -- `scene_most::most_at` meets its contract. Assumes nothing.
-use mathlib.Core.Path.{ap, _∙_}
+use mathlib.Core.Path.{_∙_}
+use Prim.Native.Nat.{_-_}
+use native.Mathlib.Omega.{arith}
 use borrow.Author.Needs.{needs}
-use Rattle.most.specs.Most.{outlineMost, mostOf}
+use Rattle.most.specs.Most.{mostOf}
 use Rattle.scene_most.proofs.Headers.{most-outline, most-sweep}
 use Rattle.scene_most.proofs.most_at.Statement.{statement}
 use Rattle.scene_most.proofs.most_at.Tie as tie
-
-outline-most-requires : tie.Need-outline-most-requires
-outline-most-requires c κs =
-    let l = rw (c .before .before .body2 .given .1) at (c .before .before .before .before .before .pre .0) in
-    (rw (c .sum-counts .ensures .0) (l .1), l .0)
-
-sweep-most-requires : tie.Need-sweep-most-requires
-sweep-most-requires c κs = rw (c .before .body3 .given .1) at (c .before .before .before .before .pre .0)
-
-returns : tie.Need-returns
-unfolding mostOf
-returns c = rw (c .before .before .body .given .1) (c .solid-most .ensures)
-
-returns-2 : tie.Need-returns-2
-returns-2 c =
-    let b = c .before .before .before .body2 .given .0 in
-    let a = c .before .before .before .before .before .before .args in
-    rw (c .before .before .before .body2 .given .1) (c .outline-most .ensures ∙ ap (λ n. outlineMost (b .0) (b .1 .0) n (b .1 .1 .0)) (c .before .sum-counts .ensures .0) ∙ most-outline (a .s .now) (a .i) (b .0) (b .1 .0) (b .1 .1 .0))
-
-returns-3 : tie.Need-returns-3
-returns-3 c =
-    let a = c .before .before .before .before .before .args in
-    rw (c .before .before .body3 .given .1) (c .sweep-most .ensures ∙ most-sweep (a .s .now) (a .i) _ _)
-
-pub most-at-spec : {M : Type 1} → statement M
-most-at-spec =
-    tie.close
-    (tie.spec (λ c. search needs) (λ c κs. search needs) (λ c. search needs) (λ c. search needs) (λ c κs. search needs) (λ c. search needs)
-    (λ c. search needs) (λ c. search needs) outline-most-requires (λ c. search needs) (λ c. search needs) sweep-most-requires returns returns-2
-    returns-3)
