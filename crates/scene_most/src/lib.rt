@@ -28,7 +28,10 @@ fn most_at(s: &[u8], i: usize, body: Body) -> Most
     ensures { λ r. ⌜ r ≡ mostOf (shapeOf (now (s .entry)) i body) ⌝ }
 {
     match body {
-        Body::Solid(p) => solid_most(p.extent),
+        Body::Solid(p) => {
+            let extent = p.extent;
+            solid_most(extent)
+        }
         Body::Outline {
             closed,
             outer,
