@@ -4,7 +4,7 @@ use mathlib.Core.Bool.{Bool}
 use Prim.Native.Nat.{ℕ, _+_, _*_, _≤_}
 use mathlib.Core.List.{List}
 use lib.ListN.{length}
-use Rattle.lists.specs.Loops.{list, sumOf}
+use Rattle.lists.specs.Loops.{list}
 use Rattle.coords.specs.declared.Point.{Point}
 use Rattle.vectors.specs.declared.Vector.{Vector}
 use Rattle.vectors.specs.Vectors.{cross}
@@ -12,6 +12,7 @@ use Rattle.coords.specs.Coords.{diff}
 use Rattle.object.specs.declared.Corner.{Corner}
 use Rattle.object.specs.Object.{Shape, outline}
 use Rattle.fields.specs.Fields.{pointAt, countsAt, cornersAt, holesAt}
+use Rattle.scene.specs.Headers.{Counted}
 use Rattle.face.specs.Faces.{Triangle, Face, quad}
 use Rattle.flattening.specs.Plane.{lidNormal}
 use Rattle.lid.specs.Lid.{Lid}
@@ -43,10 +44,6 @@ wallBetween a b normal = quad 1 (a .base) (b .base) (b .top) (a .top) (cross (di
 abbrev pub cornersOf : ℕ → ℕ → ℕ
 cornersOf i holes = i + 4 + 2 * holes
 
--- how many corners its holes have, and all its corners
-abbrev pub holeCorners : List ℕ → ℕ → ℕ → ℕ
-holeCorners s i holes = sumOf (λ k. k) (countsAt s holes (i + 4))
-
 -- the outline, and the lid that is cut over its corners
 abbrev pub outlineShape : List ℕ → ℕ → Bool → ℕ → ℕ → Shape
 outlineShape s i closed outer holes = outline closed (cornersAt s outer (cornersOf i holes)) (holesAt s (countsAt s holes (i + 4)) (cornersOf i holes + 24 * outer))
@@ -54,17 +51,15 @@ outlineShape s i closed outer holes = outline closed (cornersAt s outer (corners
 abbrev pub lidAt : List ℕ → ℕ → ℕ → ℕ → Lid
 lidAt s i outer holes = outlineLid (cornersAt s outer (cornersOf i holes)) (holesAt s (countsAt s holes (i + 4)) (cornersOf i holes + 24 * outer))
 
--- it is within the limits of document 01, section 1, and lies in the bytes
-pub record Placed (s : List ℕ) (i outer holes : ℕ) : Type 0 where
-  pub few : holes ≤ 32
-  pub corners : outer + holeCorners s i holes ≤ 512
-  pub inside : CornersIn s (cornersOf i holes) (outer + holeCorners s i holes)
+-- its n corners are counted, within the limits of document 01, section 1, and lie in the bytes
+pub record Placed (s : List ℕ) (i outer holes n : ℕ) : Type 0 where
+  pub counted : Counted s i outer holes n
+  pub inside : CornersIn s (cornersOf i holes) n
 
 -- what the code has worked out of it
 pub record Measured (s : List ℕ) (o : OutlineAt) : Type 0 where
-  pub placed : Placed s (o .i) (o .outer) (o .holes)
+  pub placed : Placed s (o .i) (o .outer) (o .holes) (o .n)
   pub place : o .at ≡ cornersOf (o .i) (o .holes)
-  pub all : o .n ≡ o .outer + holeCorners s (o .i) (o .holes)
   pub normal : o .lid ≡ lidNormal (cornersAt s (o .outer) (o .at))
 
 -- all corners of the outline that the code has worked out, and its lid

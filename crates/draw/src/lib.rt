@@ -79,10 +79,11 @@ pub fn draw(
     ensures { λ r. ⌜ DrawsObject limit (shapeOf (now (s .entry)) i body) before r vs ns is log ⌝ }
 {
     match body {
-        Body::Solid(extent) => {
+        Body::Solid(p) => {
+            let extent = p.extent;
             let offered = solid_price(extent);
             let first = first_part(extent);
-            let after = solid(s, i, extent, limit, before, NOTHING, vs, ns, is);
+            let after = solid(s, p, limit, before, NOTHING, vs, ns, is);
             Drawn {
                 first,
                 after,
@@ -94,7 +95,23 @@ pub fn draw(
             closed,
             outer,
             holes,
-        } => { outline(s, i, closed, outer, holes, limit, before, vs, ns, is, log) }
+            corners,
+        } => {
+            outline(
+                s,
+                i,
+                closed,
+                outer,
+                holes,
+                corners,
+                limit,
+                before,
+                vs,
+                ns,
+                is,
+                log,
+            )
+        }
         Body::Sweep { round, sections } => {
             let n = sections as usize;
             draw_sections(s, i + 2, round, n, limit, before, vs, ns, is)

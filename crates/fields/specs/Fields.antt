@@ -9,9 +9,12 @@ use Rattle.float.specs.Number.{allowed32, allowed64}
 use Rattle.coords.specs.declared.Point.{Point}
 use Rattle.coords.specs.Coords.{point}
 use Rattle.object.specs.declared.Corner.{Corner}
+use Rattle.object.specs.declared.Extent.{Extent}
+use Rattle.object.specs.declared.Extent.the-variants.{Box, Cylinder}
 use Rattle.object.specs.declared.Pair.{Pair}
 use Rattle.object.specs.declared.Section.{Section}
 use Rattle.object.specs.declared.Orientation.{Orientation}
+use Rattle.fields.specs.Layout.{cornerBytes, sectionBytes}
 
 unfoldable pub u16At : List ℕ → ℕ → ℕ
 u16At s i = getD s i 0 + 256 * getD s (i + 1) 0
@@ -35,7 +38,7 @@ unfoldable pub cornerAt : List ℕ → ℕ → Corner
 cornerAt s i = record { base = pointAt s i; top = pointAt s (i + 12) }
 
 unfoldable pub sectionAt : List ℕ → ℕ → Section
-sectionAt s i = record { left = cornerAt s i; right = cornerAt s (i + 24) }
+sectionAt s i = record { left = cornerAt s i; right = cornerAt s (i + cornerBytes) }
 
 unfoldable pub pairAt : List ℕ → ℕ → Pair
 pairAt s i = record { sin = f64At s i; cos = f64At s (i + 8) }
@@ -43,12 +46,19 @@ pairAt s i = record { sin = f64At s i; cos = f64At s (i + 8) }
 unfoldable pub orientationAt : List ℕ → ℕ → Orientation
 orientationAt s i = record { heading = pairAt s i; pitch = pairAt s (i + 16); roll = pairAt s (i + 32) }
 
+-- the sizes of a box and of a cylinder
+abbrev pub boxAt : List ℕ → ℕ → Extent
+boxAt s i = Box (f32At s i) (f32At s (i + 4)) (f32At s (i + 8))
+
+abbrev pub cylinderAt : List ℕ → ℕ → Extent
+cylinderAt s i = Cylinder (f32At s i) (f32At s (i + 4))
+
 -- n corners, n sections and n u16 from place i on
 unfoldable pub cornersAt : List ℕ → ℕ → ℕ → List Corner
-cornersAt s n i = list (λ k. cornerAt s (i + 24 * k)) n 0
+cornersAt s n i = list (λ k. cornerAt s (i + cornerBytes * k)) n 0
 
 unfoldable pub sectionsAt : List ℕ → ℕ → ℕ → List Section
-sectionsAt s n i = list (λ k. sectionAt s (i + 48 * k)) n 0
+sectionsAt s n i = list (λ k. sectionAt s (i + sectionBytes * k)) n 0
 
 unfoldable pub countsAt : List ℕ → ℕ → ℕ → List ℕ
 countsAt s n i = list (λ k. u16At s (i + 2 * k)) n 0
@@ -56,7 +66,7 @@ countsAt s n i = list (λ k. u16At s (i + 2 * k)) n 0
 -- the corners of each hole, one hole behind the other from place i on
 unfoldable pub holesAt : List ℕ → List ℕ → ℕ → List (List Corner)
 holesAt s [] i = []
-holesAt s (c ∷ cs) i = cornersAt s c i ∷ holesAt s cs (i + 24 * c)
+holesAt s (c ∷ cs) i = cornersAt s c i ∷ holesAt s cs (i + cornerBytes * c)
 
 -- n numbers from place i on are allowed
 unfoldable pub all32 : List ℕ → ℕ → ℕ → Bool

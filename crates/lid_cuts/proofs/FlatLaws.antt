@@ -14,6 +14,7 @@ use Rattle.coords.specs.declared.Point.{Point}
 use Rattle.vectors.specs.declared.Vector.{Vector}
 use Rattle.vectors.specs.Vectors.{cross}
 use Rattle.fields.specs.Fields.{pointAt, cornersAt, countsAt, holesAt}
+use Rattle.scene.specs.Headers.{cornerCount}
 use Rattle.scene.proofs.Parts.{corners-length, holes-size, outline-corners}
 use Rattle.lid.specs.declared.Flat.{Flat}
 use Rattle.flattening.specs.Plane.{topsOf, lidNormal, firstAxis, flatten}
@@ -24,7 +25,7 @@ use Rattle.lid.specs.Written.{WritesLid}
 use Rattle.flattening.specs.Steps.{flatOn}
 use Rattle.shapes.specs.Shapes.{allCorners, flatOf, outlineLid}
 use Rattle.corners.specs.declared.OutlineAt.{OutlineAt}
-use Rattle.corners.specs.Outlines.{pointsAt, cornersOf, holeCorners, lidAt, Measured}
+use Rattle.corners.specs.Outlines.{pointsAt, cornersOf, lidAt, Measured}
 use Rattle.corners.proofs.CornerLaws.{map-list, tops-points}
 
 -- ---- corners laid flat
@@ -76,18 +77,18 @@ laid-flat s n at lid e1 e2 us vs q r a b =
 -- ---- the lid
 
 -- all corners of an outline
-pub all-corners : (s : List ℕ) (i outer holes : ℕ) → allCorners (cornersAt s outer (cornersOf i holes)) (holesAt s (countsAt s holes (i + 4)) (cornersOf i holes + 24 * outer)) ≡ cornersAt s (outer + holeCorners s i holes) (cornersOf i holes)
+pub all-corners : (s : List ℕ) (i outer holes : ℕ) → allCorners (cornersAt s outer (cornersOf i holes)) (holesAt s (countsAt s holes (i + 4)) (cornersOf i holes + 24 * outer)) ≡ cornersAt s (cornerCount s i outer holes) (cornersOf i holes)
 unfolding allCorners
 all-corners s i outer holes = outline-corners s outer (countsAt s holes (i + 4)) (cornersOf i holes)
 
 pub lid-at : (s : List ℕ) (i outer holes : ℕ)
-    → lidOf (flatten (lidNormal (cornersAt s outer (cornersOf i holes))) (pointsAt s (outer + holeCorners s i holes) (cornersOf i holes + 12))) outer (countsAt s holes (i + 4)) ≡ lidAt s i outer holes
+    → lidOf (flatten (lidNormal (cornersAt s outer (cornersOf i holes))) (pointsAt s (cornerCount s i outer holes) (cornersOf i holes + 12))) outer (countsAt s holes (i + 4)) ≡ lidAt s i outer holes
 unfolding outlineLid flatOf
 lid-at s i outer holes =
     let at = cornersOf i holes in
     let counts = countsAt s holes (i + 4) in
     let lid = lidNormal (cornersAt s outer at) in
-    let n = outer + holeCorners s i holes in
+    let n = cornerCount s i outer holes in
     ap (λ (ps : List Point). lidOf (flatten lid ps) outer counts) (sym (tops-points s n at) ∙ ap topsOf (sym (all-corners s i outer holes)))
     ∙ ap (λ (c : ℕ). lidOf (flatten lid (topsOf (allCorners (cornersAt s outer at) (holesAt s counts (at + 24 * outer))))) c counts) (sym (corners-length s outer at))
     ∙ ap (lidOf (flatten lid (topsOf (allCorners (cornersAt s outer at) (holesAt s counts (at + 24 * outer))))) (length (cornersAt s outer at))) (sym (holes-size s counts (at + 24 * outer)))
@@ -97,8 +98,8 @@ pub cut-lid : (s : List ℕ) (o : OutlineAt) (fs : List Flat) (counts : List ℕ
 cut-lid s o fs counts m r e =
     ap₂ (λ (f : List Flat) (c : List ℕ). lidOf f (o .outer) c)
     (r
-    ∙ ap₂ (λ (v : Vector) (k : ℕ). flatten v (pointsAt s k (o .at + 12))) (m .normal) (m .all)
-    ∙ ap (λ (at : ℕ). flatten (lidNormal (cornersAt s (o .outer) at)) (pointsAt s (o .outer + holeCorners s (o .i) (o .holes)) (at + 12))) (m .place)) e
+    ∙ ap₂ (λ (v : Vector) (k : ℕ). flatten v (pointsAt s k (o .at + 12))) (m .normal) (m .placed .counted .total)
+    ∙ ap (λ (at : ℕ). flatten (lidNormal (cornersAt s (o .outer) at)) (pointsAt s (cornerCount s (o .i) (o .outer) (o .holes)) (at + 12))) (m .place)) e
     ∙ lid-at s (o .i) (o .outer) (o .holes)
 
 -- the lid is written where the cut of the corners laid flat is, in a room whose part from the second coordinates on is lent

@@ -30,7 +30,7 @@ use Rattle.lid.specs.Written.{triangleRecord, triangleNumbers}
 use Rattle.lid.proofs.Facts.{lid-triangles, lid-corners}
 use Rattle.shapes.specs.Shapes.{flatOf, outlineLid}
 use Rattle.corners.specs.declared.OutlineAt.{OutlineAt}
-use Rattle.corners.specs.Outlines.{faceAt, pointsAt, cornersOf, holeCorners, lidAt, Placed, Measured}
+use Rattle.corners.specs.Outlines.{faceAt, pointsAt, cornersOf, lidAt, Placed, Measured}
 use Rattle.corners.proofs.CornerLaws.{points-length}
 use Rattle.lid_cuts.proofs.FillLaws.{fill-front}
 use Rattle.shapes.proofs.Sizes.{outline-entries, price-lid}
@@ -91,7 +91,7 @@ face-room {limit} n k room p h g = drew-room limit room p (omega (arith, h)) (om
 
 -- ---- its bounds
 
-module _ (s : List ℕ) (i outer holes : ℕ) (p : Placed s i outer holes) where
+module _ (s : List ℕ) (i outer holes n : ℕ) (p : Placed s i outer holes n) where
   abbrev cs : List Corner
   cs = cornersAt s outer (cornersOf i holes)
 
@@ -99,22 +99,22 @@ module _ (s : List ℕ) (i outer holes : ℕ) (p : Placed s i outer holes) where
   hs = holesAt s (countsAt s holes (i + 4)) (cornersOf i holes + 24 * outer)
 
   -- at most one for each entry of the log, and one more
-  pub most-triangles : length (lidAt s i outer holes .triangles) ≤ outer + holeCorners s i holes + 3 * holes + 2
+  pub most-triangles : length (lidAt s i outer holes .triangles) ≤ n + 3 * holes + 2
   most-triangles =
       let a : length (outlineLid cs hs .triangles) ≡ lidPrice (flatOf cs hs) (outlineLid cs hs .log) = unfold outlineLid in lid-triangles (flatOf cs hs) (length cs) (map length hs) in
       let e = price-lid cs hs in
       let b = outline-entries cs hs in
       let h = holes-length s (countsAt s holes (i + 4)) (cornersOf i holes + 24 * outer) ∙ counts-length s holes (i + 4) in
       let c = corners-count s outer (cornersOf i holes) (countsAt s holes (i + 4)) (cornersOf i holes + 24 * outer) in
-      omega (arith, a, e, b, h, c)
+      omega (arith, a, e, b, h, c, p .counted .total)
 
   pub few-triangles : length (lidAt s i outer holes .triangles) ≤ 612
-  few-triangles = omega (arith, most-triangles, p .few, p .corners)
+  few-triangles = omega (arith, most-triangles, p .counted .few, p .counted .most)
 
-  pub low-triangles : Each (TriangleLow (outer + holeCorners s i holes)) (lidAt s i outer holes .triangles)
+  pub low-triangles : Each (TriangleLow n) (lidAt s i outer holes .triangles)
   low-triangles =
       subst (λ (n : ℕ). Each (TriangleLow n) (lidAt s i outer holes .triangles))
-      (corners-count s outer (cornersOf i holes) (countsAt s holes (i + 4)) (cornersOf i holes + 24 * outer))
+      (corners-count s outer (cornersOf i holes) (countsAt s holes (i + 4)) (cornersOf i holes + 24 * outer) ∙ sym (p .counted .total))
       (unfold outlineLid in lid-corners (flatOf cs hs) (length cs) (map length hs))
 
 -- what `lid_faces` asks of the lid's triangles, where they are written at the start of a buffer with room for them
@@ -127,5 +127,5 @@ lid-asks {s} {o} {before} {count} {t} buffer buffer′ m room e w fits =
     let ts = lidAt s (o .i) (o .outer) (o .holes) .triangles in
     let drawn = triangles-drawn buffer buffer′ ts count e w fits in
     let size = sym (length-triangles (take (3 * count) buffer′)) ∙ ap length drawn in
-    let low = subst (λ (k : ℕ). Each (TriangleLow k) ts) (sym (m .all)) (low-triangles s (o .i) (o .outer) (o .holes) p) in
-    (room-less room (omega (arith, p .corners, m .all)) (omega (arith, size, few-triangles s (o .i) (o .outer) (o .holes) p)), subst (Each (TriangleLow (o .n))) (sym drawn) low)
+    let low = low-triangles s (o .i) (o .outer) (o .holes) (o .n) p in
+    (room-less room (omega (arith, p .counted .most)) (omega (arith, size, few-triangles s (o .i) (o .outer) (o .holes) (o .n) p)), subst (Each (TriangleLow (o .n))) (sym drawn) low)

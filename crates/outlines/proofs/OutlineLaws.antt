@@ -13,6 +13,7 @@ use Rattle.vectors.specs.Vectors.{zeroV}
 use Rattle.object.specs.declared.Corner.{Corner}
 use Rattle.fields.specs.Fields.{cornersAt, countsAt, holesAt}
 use Rattle.scene.specs.declared.headers.Body.the-variants.{Outline}
+use Rattle.scene.specs.Headers.{cornerCount}
 use Rattle.scene.proofs.Parts.{corners-length, holes-size, corners-count}
 use Rattle.face.specs.declared.Tally.{Tally}
 use Rattle.face.specs.Faces.{Face}
@@ -30,7 +31,7 @@ use Rattle.shapes.specs.declared.Drawn.{Drawn}
 use Rattle.shapes.specs.Drawn.{CanDraw, DrewObject}
 use Rattle.shapes.specs.Price.{offered, outlinePrice}
 use Rattle.corners.specs.declared.OutlineAt.{OutlineAt}
-use Rattle.corners.specs.Outlines.{cornersOf, holeCorners, outlineShape, lidAt, Placed, Measured}
+use Rattle.corners.specs.Outlines.{cornersOf, outlineShape, lidAt, Placed, Measured}
 use Rattle.lid_faces.specs.declared.Capped.{Capped}
 use Rattle.lid_faces.specs.Caps.{DrewCap}
 use Rattle.outlines.specs.Measures.{outlineIn, wallsIn}
@@ -74,11 +75,11 @@ module _ (s : List ℕ) (i outer holes : ℕ) where
   abbrev pub wallsOf : Bool → Vector → List Face
   wallsOf closed lid = outerWalls closed outerCorners lid ++ join (holeWalls lid) holesOf
 
-  corners-all : outer + holeCorners s i holes ≡ length outerCorners + sumOf length holesOf
+  corners-all : cornerCount s i outer holes ≡ length outerCorners + sumOf length holesOf
   corners-all = omega (arith, corners-length s outer (cornersOf i holes), sum-lengths holesOf, ap total (holes-size s (countsAt s holes (i + 4)) (cornersOf i holes + 24 * outer)))
 
   -- walls leave room for the lid and the floor
-  lid-room : {limit : Float} {before : ℕ} {vs ns : List Float} {is : List ℕ} {d : Drawing} (closed : Bool) (lid : Vector) → 3 * before < 2 ^ 32 → Placed s i outer holes
+  lid-room : {limit : Float} {before : ℕ} {vs ns : List Float} {is : List ℕ} {d : Drawing} (closed : Bool) (lid : Vector) {n : ℕ} → 3 * before < 2 ^ 32 → Placed s i outer holes n
       → Drew limit (wallsOf closed lid) before (drawing (tally 0 0 0) vs ns is) d → Room before (d .tally) 1024 1224
   lid-room {limit} {before} closed lid h placed p =
       let start : Room before (tally 0 0 0) 3072 2248 = record { vertices = omega arith; kept = omega arith; thin = omega arith } in
@@ -86,14 +87,14 @@ module _ (s : List ℕ) (i outer holes : ℕ) where
       let inner = join (holeWalls lid) holesOf in
       let e = corners-count s outer (cornersOf i holes) (countsAt s holes (i + 4)) (cornersOf i holes + 24 * outer) in
       drew-room limit start p
-      (omega (arith, sum-append (λ f. length (f .points)) walls inner, outer-points closed outerCorners lid, holes-points lid holesOf, e, placed .corners))
-      (omega (arith, sum-append count walls inner, outer-count closed outerCorners lid, holes-count lid holesOf, sum-lengths holesOf, e, placed .corners))
+      (omega (arith, sum-append (λ f. length (f .points)) walls inner, outer-points closed outerCorners lid, holes-points lid holesOf, e, placed .counted .total, placed .counted .most))
+      (omega (arith, sum-append count walls inner, outer-count closed outerCorners lid, holes-count lid holesOf, sum-lengths holesOf, e, placed .counted .total, placed .counted .most))
 
-  closed-offered : (high : Bool) (t : ℕ) → high ≡ hasHeight (cornersAt s (outer + holeCorners s i holes) (cornersOf i holes)) → t ≡ length (lidAt s i outer holes .triangles)
-      → 2 * (outer + holeCorners s i holes) + t + cond high t 0 ≡ offered (outlineShape s i true outer holes)
+  closed-offered : (high : Bool) (t : ℕ) → high ≡ hasHeight (cornersAt s (cornerCount s i outer holes) (cornersOf i holes)) → t ≡ length (lidAt s i outer holes .triangles)
+      → 2 * (cornerCount s i outer holes) + t + cond high t 0 ≡ offered (outlineShape s i true outer holes)
   unfolding offered outlinePrice
   closed-offered high t h e =
-      let n = outer + holeCorners s i holes in
+      let n = cornerCount s i outer holes in
       let price = lidPrice (flatOf outerCorners holesOf) (outlineLid outerCorners holesOf .log) in
       let p : t ≡ price = e ∙ (unfold outlineLid in lid-triangles (flatOf outerCorners holesOf) (length outerCorners) (map length holesOf)) in
       let q : high ≡ hasHeight (allCorners outerCorners holesOf) = h ∙ ap hasHeight (sym (all-corners s i outer holes)) in
@@ -101,8 +102,8 @@ module _ (s : List ℕ) (i outer holes : ℕ) where
       omega (arith, p, g, corners-all)
 
   -- an open outline, drawn
-  module _ {limit : Float} {before : ℕ} {vs ns : List Float} {is : List ℕ} where
-    open-object : (closed : Bool) {lid : Vector} {n : ℕ} {ls : List ℕ} {t : Tally} {price : ℕ} {vs′ ns′ : List Float} {is′ : List ℕ} → closed ≡ false → lid ≡ lidNormal outerCorners → n ≡ outer + holeCorners s i holes
+  module _ {limit : Float} {before : ℕ} {vs ns : List Float} {is : List ℕ} {n : ℕ} where
+    open-object : (closed : Bool) {lid : Vector} {ls : List ℕ} {t : Tally} {price : ℕ} {vs′ ns′ : List Float} {is′ : List ℕ} → closed ≡ false → lid ≡ lidNormal outerCorners → n ≡ cornerCount s i outer holes
         → Drew limit (wallsOf closed lid) before (drawing (tally 0 0 0) vs ns is) (drawing t vs′ ns′ is′) → price ≡ 2 * (outer - 1) + 2 * (n - outer)
         → DrewObject limit (outlineShape s i closed outer holes) before vs ns is ls (openDrawn t price) vs′ ns′ is′ ls
     unfolding stagesOf outlineStages offered outlinePrice logOf logNumbers join
@@ -116,14 +117,15 @@ module _ (s : List ℕ) (i outer holes : ℕ) where
     open-object true c l e drew priced = absurd (true≢false c)
 
     -- a closed one, as the code has worked it out; its walls leave the drawing at d
-    closed-object : (closed : Bool) {ls : List ℕ} {d : Drawing} {r : Capped} {vs′ ns′ : List Float} {is′ ls′ : List ℕ} → closed ≡ true
+    closed-object : (closed : Bool) {ls : List ℕ} {d : Drawing} {r : Capped} {vs′ ns′ : List Float} {is′ ls′ : List ℕ} → closed ≡ true → n ≡ cornerCount s i outer holes
         → Drew limit (wallsOf closed (lidNormal outerCorners)) before (drawing (tally 0 0 0) vs ns is) d
-        → DrewCap limit s (outlineIn s i closed outer holes) before d (drawing (r .floor) vs′ ns′ is′) ls ls′ r
+        → DrewCap limit s (outlineIn s i closed outer holes n) before d (drawing (r .floor) vs′ ns′ is′) ls ls′ r
         → DrewObject limit (outlineShape s i closed outer holes) before vs ns is ls (closedDrawn (d .tally) r) vs′ ns′ is′ ls′
     unfolding stagesOf outlineStages logOf
-    closed-object true {d = d} {r} {vs′} {ns′} {is′} c sides cap =
+    closed-object true {ls} {d} {r} {vs′} {ns′} {is′} {ls′} c e sides capped =
+        let cap = subst (λ (m : ℕ). DrewCap limit s (outlineIn s i true outer holes m) before d (drawing (r .floor) vs′ ns′ is′) ls ls′ r) e capped in
         let lid = lidNormal outerCorners in
-        let told = cornersAt s (outer + holeCorners s i holes) (cornersOf i holes) in
+        let told = cornersAt s (cornerCount s i outer holes) (cornersOf i holes) in
         let ts = lidAt s i outer holes .triangles in
         record {
           first = refl;
@@ -134,35 +136,35 @@ module _ (s : List ℕ) (i outer holes : ℕ) where
           entries = cap .entries;
           log = cap .log;
         }
-    closed-object false c sides cap = absurd (false≢true c)
+    closed-object false c e sides cap = absurd (false≢true c)
 
 -- ---- the outline that the code has measured
 
-pub made : (s : List ℕ) (i : ℕ) (closed : Bool) (outer holes n : ℕ) (lid : Vector) (high : Bool) → n ≡ outer + holeCorners s i holes → lid ≡ lidNormal (cornersAt s outer (cornersOf i holes))
+pub made : (s : List ℕ) (i : ℕ) (closed : Bool) (outer holes n : ℕ) (lid : Vector) (high : Bool) → lid ≡ lidNormal (cornersAt s outer (cornersOf i holes))
     → high ≡ cond closed (hasHeight (cornersAt s n (cornersOf i holes))) false
-    → _≡_ {A = OutlineAt} (record { i = i; at = cornersOf i holes; outer = outer; holes = holes; n = n; lid = lid; high = high }) (outlineIn s i closed outer holes)
-made s i closed outer holes n lid high e l h = λ z. record {
+    → _≡_ {A = OutlineAt} (record { i = i; at = cornersOf i holes; outer = outer; holes = holes; n = n; lid = lid; high = high }) (outlineIn s i closed outer holes n)
+made s i closed outer holes n lid high l h = λ z. record {
   i = i;
   at = cornersOf i holes;
   outer = outer;
   holes = holes;
-  n = e z;
+  n = n;
   lid = l z;
-  high = (h ∙ ap (λ (m : ℕ). cond closed (hasHeight (cornersAt s m (cornersOf i holes))) false) e) z;
+  high = h z;
 }
 
-module _ (s : List ℕ) (i : ℕ) (closed : Bool) (outer holes : ℕ) {o : OutlineAt} (e : o ≡ outlineIn s i closed outer holes) where
-  pub measured-in : Placed s i outer holes → Measured s o
-  measured-in p = subst (Measured s) (sym e) (record { placed = p; place = refl; all = refl; normal = refl })
+module _ (s : List ℕ) (i : ℕ) (closed : Bool) (outer holes n : ℕ) {o : OutlineAt} (e : o ≡ outlineIn s i closed outer holes n) (placed : Placed s i outer holes n) where
+  pub measured-in : Measured s o
+  measured-in = subst (Measured s) (sym e) (record { placed = placed; place = refl; normal = refl })
 
   pub high-in : closed ≡ true → o .high ≡ hasHeight (cornersAt s (o .n) (o .at))
   high-in c =
       subst (λ (o : OutlineAt). o .high ≡ hasHeight (cornersAt s (o .n) (o .at))) (sym e)
-      (ap (λ (b : Bool). cond b (hasHeight (cornersAt s (outer + holeCorners s i holes) (cornersOf i holes))) false) c)
+      (ap (λ (b : Bool). cond b (hasHeight (cornersAt s n (cornersOf i holes))) false) c)
 
-  pub room-in : {limit : Float} {before : ℕ} {vs ns : List Float} {is : List ℕ} {d : Drawing} → 3 * before < 2 ^ 32 → Placed s i outer holes
+  pub room-in : {limit : Float} {before : ℕ} {vs ns : List Float} {is : List ℕ} {d : Drawing} → 3 * before < 2 ^ 32
       → Drew limit (wallsIn s closed o) before (drawing (tally 0 0 0) vs ns is) d → Room before (d .tally) 1024 1224
-  room-in {limit} {before} {vs} {ns} {is} {d} h placed p =
+  room-in {limit} {before} {vs} {ns} {is} {d} h p =
       lid-room s i outer holes closed _ h placed (subst (λ (o : OutlineAt). Drew limit (wallsIn s closed o) before (drawing (tally 0 0 0) vs ns is) d) e p)
 
   module _ {limit : Float} {before : ℕ} {vs ns : List Float} {is : List ℕ} where
@@ -172,7 +174,7 @@ module _ (s : List ℕ) (i : ℕ) (closed : Bool) (outer holes : ℕ) {o : Outli
     open-in {ls} {t} {price} {vs′} {ns′} {is′} c sides priced =
         subst (λ (o : OutlineAt). Drew limit (wallsIn s closed o) before (drawing (tally 0 0 0) vs ns is) (drawing t vs′ ns′ is′) → price ≡ 2 * (o .outer - 1) + 2 * (o .n - o .outer)
         → DrewObject limit (outlineShape s i closed outer holes) before vs ns is ls (openDrawn t price) vs′ ns′ is′ ls) (sym e)
-        (λ drew offered. open-object s i outer holes closed c refl refl drew offered) sides priced
+        (λ drew offered. open-object s i outer holes closed c refl (placed .counted .total) drew offered) sides priced
 
     pub closed-in : {ls : List ℕ} {d : Drawing} {r : Capped} {vs′ ns′ : List Float} {is′ ls′ : List ℕ} → closed ≡ true
         → Drew limit (wallsIn s closed o) before (drawing (tally 0 0 0) vs ns is) d → DrewCap limit s o before d (drawing (r .floor) vs′ ns′ is′) ls ls′ r
@@ -180,8 +182,8 @@ module _ (s : List ℕ) (i : ℕ) (closed : Bool) (outer holes : ℕ) {o : Outli
     closed-in {ls} {d} {r} {vs′} {ns′} {is′} {ls′} c sides cap =
         subst (λ (o : OutlineAt). Drew limit (wallsIn s closed o) before (drawing (tally 0 0 0) vs ns is) d → DrewCap limit s o before d (drawing (r .floor) vs′ ns′ is′) ls ls′ r
         → DrewObject limit (outlineShape s i closed outer holes) before vs ns is ls (closedDrawn (d .tally) r) vs′ ns′ is′ ls′) (sym e)
-        (λ sides cap. closed-object s i outer holes closed c sides cap) sides cap
+        (λ sides cap. closed-object s i outer holes closed c (placed .counted .total) sides cap) sides cap
 
 -- an outline that can be drawn is within the limits, at small places
-pub can-place : (s : List ℕ) (i before : ℕ) (closed : Bool) (outer holes : ℕ) → CanDraw s i (Outline closed outer holes) before → Placed s i outer holes
-can-place s i before closed outer holes c = record { few = c .limits .0; corners = c .limits .1; inside = omega (arith, c .inside) }
+pub can-place : (s : List ℕ) (i before : ℕ) (closed : Bool) (outer holes corners : ℕ) → CanDraw s i (Outline closed outer holes corners) before → Placed s i outer holes corners
+can-place s i before closed outer holes corners c = record { counted = c .limits; inside = omega (arith, c .inside) }

@@ -8,18 +8,18 @@ use Rattle.face.specs.Faces.{Face}
 use Rattle.flattening.specs.Plane.{lidNormal}
 use Rattle.shapes.specs.Shapes.{outerWalls, holeWalls, hasHeight}
 use Rattle.corners.specs.declared.OutlineAt.{OutlineAt}
-use Rattle.corners.specs.Outlines.{cornersOf, holeCorners}
+use Rattle.corners.specs.Outlines.{cornersOf}
 
--- the outline whose counts are at i; only a closed one is asked for its height
-abbrev pub outlineIn : List ℕ → ℕ → Bool → ℕ → ℕ → OutlineAt
-outlineIn s i closed outer holes = record {
+-- the outline whose counts are at i, n corners in all; only a closed one is asked for its height
+abbrev pub outlineIn : List ℕ → ℕ → Bool → ℕ → ℕ → ℕ → OutlineAt
+outlineIn s i closed outer holes n = record {
   i = i;
   at = cornersOf i holes;
   outer = outer;
   holes = holes;
-  n = outer + holeCorners s i holes;
+  n = n;
   lid = lidNormal (cornersAt s outer (cornersOf i holes));
-  high = cond closed (hasHeight (cornersAt s (outer + holeCorners s i holes) (cornersOf i holes))) false;
+  high = cond closed (hasHeight (cornersAt s n (cornersOf i holes))) false;
 }
 
 -- the walls of an outline so worked out: the outer ones, then the holes'

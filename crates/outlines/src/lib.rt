@@ -12,7 +12,6 @@ ghost use Rattle.outlines.specs.Measures.{outlineIn, wallsIn};
 use corners::OutlineAt;
 use corners::has_height;
 use face::Tally;
-use hole_counts::sum_counts;
 use hole_walls::hole_walls;
 use lid_faces::cap;
 use lid_plane::about;
@@ -97,23 +96,22 @@ fn open_price(outer: u32, n: u32) -> u32
 }
 
 // The outline whose counts are at i.
-fn outline_at(s: &[u8], i: usize, closed: bool, outer: u16, holes: u16) -> OutlineAt
-    requires { ⌜ Placed (now s) i outer holes ⌝ }
-    ensures { λ r. ⌜ r ≡ outlineIn (now (s .entry)) i closed outer holes ⌝ }
+fn outline_at(s: &[u8], i: usize, closed: bool, outer: u16, holes: u16, corners: u32) -> OutlineAt
+    requires { ⌜ Placed (now s) i outer holes corners ⌝ }
+    ensures { λ r. ⌜ r ≡ outlineIn (now (s .entry)) i closed outer holes corners ⌝ }
 {
     let h = holes as usize;
     let at = i + 4 + 2 * h;
     let o = outer as u32;
-    let n = o + (sum_counts(s, holes, i + 4) as u32);
     let lid = lid_normal(s, at, outer as usize);
     if closed {
-        let high = has_height(s, at, n as usize);
+        let high = has_height(s, at, corners as usize);
         return OutlineAt {
             i,
             at,
             outer: o,
             holes: h,
-            n,
+            n: corners,
             lid,
             high,
         };
@@ -123,7 +121,7 @@ fn outline_at(s: &[u8], i: usize, closed: bool, outer: u16, holes: u16) -> Outli
         at,
         outer: o,
         holes: h,
-        n,
+        n: corners,
         lid,
         high: false,
     }
@@ -136,6 +134,7 @@ pub fn outline(
     closed: bool,
     outer: u16,
     holes: u16,
+    corners: u32,
     limit: f32,
     before: u32,
     vs: &mut [f32],
@@ -143,10 +142,10 @@ pub fn outline(
     is: &mut [u32],
     log: &mut [u32],
 ) -> Drawn
-    requires { ⌜ Placed (now s) i outer holes × (3 * before < 2 ^ 32) ⌝ }
+    requires { ⌜ Placed (now s) i outer holes corners × (3 * before < 2 ^ 32) ⌝ }
     ensures { λ r. ⌜ DrawsObject limit (outlineShape (now (s .entry)) i closed outer holes) before r vs ns is log ⌝ }
 {
-    let o = outline_at(s, i, closed, outer, holes);
+    let o = outline_at(s, i, closed, outer, holes, corners);
     let t = all_walls(s, o, closed, limit, before, vs, ns, is);
     if closed {
         let c = cap(s, o, limit, before, t, vs, ns, is, log);

@@ -10,6 +10,7 @@ use lib.Ieee.{Float}
 use Rattle.lists.specs.Loops.{sumOf}
 use Rattle.coords.specs.Buffers.{vertexNumbers, normalNumbers}
 use Rattle.object.specs.Object.{Shape, Object}
+use Rattle.fields.specs.Layout.{mostBytes}
 use Rattle.scene.specs.Scene.{scene, accepted}
 use Rattle.scene.specs.Headers.{headerAt, objectOf, Limits}
 use Rattle.face.specs.declared.Tally.{Tally}
@@ -150,7 +151,7 @@ Fits st = FitCounts (passedBy st)
 pub record CanAdd (limit : Float) (s : List ℕ) (p : Progress) : Type 0 where
   pub limits : Limits s (p .at + 5) (headerAt s (p .at) .body)
   pub inside : p .at + headerAt s (p .at) .size ≤ length s
-  pub short : length s ≤ 16777216
+  pub short : length s ≤ mostBytes
   pub fits : (b : Buffers) → Fits (withObject limit (objectOf s (p .at) (headerAt s (p .at))) (passOf p b))
 
 -- the object of the next record, added

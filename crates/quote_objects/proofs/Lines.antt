@@ -13,7 +13,7 @@ use Rattle.scene.specs.declared.headers.Header.{Header}
 use Rattle.scene.specs.Scene.{scene, trailer}
 use Rattle.scene.specs.Answers.{objectsOf}
 use Rattle.scene.specs.Headers.{headerAt, objectOf}
-use Rattle.scene.proofs.Walk.{Walking, walk-object, walk-next, walk-inside, AcceptedAs, accepted-scene, trailer-inside}
+use Rattle.scene.proofs.Walk.{Walking, walk-object, walk-next, walk-body, walk-inside, AcceptedAs, accepted-scene, trailer-inside}
 use Rattle.scene_mesh.specs.Mesh.{accountOf, accountsOf, accountRecord, accountNumbers}
 use Rattle.decimals.specs.Texts.{Wrote}
 use Rattle.decimals.proofs.Texts.{Writing, writing-start, writing-next, writing-end, wrote-as}
@@ -57,6 +57,9 @@ module _ {s account : List ℕ} {n : ℕ} {old text : List ℕ} {next at k : ℕ
   place-fits = let short = w .known .short in let p = w .place in omega (arith, trailer-inside s n)
 
   module _ (l : k < n) where
+    pub record-inside : at < length s
+    record-inside = omega (arith, walk-body (w .walking) l, trailer-inside s n)
+
     abbrev here : Object
     here = objectOf s at (headerAt s at)
 

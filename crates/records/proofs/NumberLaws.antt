@@ -9,6 +9,7 @@ use Rattle.lists.specs.Loops.{sumOf}
 use Rattle.object.specs.declared.Extent.{Extent}
 use Rattle.object.specs.declared.Section.{Section}
 use Rattle.object.specs.Object.{Shape, solid, outline, Object}
+use Rattle.fields.specs.Layout.{mostCorners, mostSections, cornerBytes, sectionBytes, positionBytes, orientationBytes, orientationFrom, sizesFrom}
 use Rattle.fields.specs.Fields.{u16At, pointAt, orientationAt, cornersAt, sectionsAt, holesAt, all32, all64}
 use Rattle.rows.specs.declared.Refusal.the-variants.{Past, Numbers}
 use Rattle.scene.specs.declared.records.RecordEnd.{RecordEnd}
@@ -28,27 +29,27 @@ module _ (e i n : ℕ) (allowed : Bool) (o : Object) where
   unfolding rest
   rest-good l h a = rw (le-ltb e (i + n) (omega arith), a)
 
-module _ (s : List ℕ) (e id i w : ℕ) (x : Extent) (l : i ≤ e) (h : 60 + 4 * w ≤ e - i) where
-  pub solid-numbers : all32 s 3 i && all64 s 6 (i + 12) && all32 s w (i + 60) ≡ false → bad Numbers ≡ solidAt s e id i w x
+module _ (s : List ℕ) (e id i w : ℕ) (x : Extent) (l : i ≤ e) (h : positionBytes + orientationBytes + 4 * w ≤ e - i) where
+  pub solid-numbers : all32 s 3 i && all64 s 6 (orientationFrom i) && all32 s w (sizesFrom i) ≡ false → bad Numbers ≡ solidAt s e id i w x
   unfolding solidAt
-  solid-numbers a = rest-numbers e i (60 + 4 * w) _ _ l h a
+  solid-numbers a = rest-numbers e i (positionBytes + orientationBytes + 4 * w) _ _ l h a
 
-  pub solid-allowed : all32 s 3 i && all64 s 6 (i + 12) && all32 s w (i + 60) ≡ true → good (record { id = id; shape = solid (pointAt s i) (orientationAt s (i + 12)) x }) (i + (60 + 4 * w)) ≡ solidAt s e id i w x
+  pub solid-allowed : all32 s 3 i && all64 s 6 (orientationFrom i) && all32 s w (sizesFrom i) ≡ true → good (record { id = id; shape = solid (pointAt s i) (orientationAt s (orientationFrom i)) x }) (i + (positionBytes + orientationBytes + 4 * w)) ≡ solidAt s e id i w x
   unfolding solidAt
-  solid-allowed a = rest-good e i (60 + 4 * w) _ _ l h a
+  solid-allowed a = rest-good e i (positionBytes + orientationBytes + 4 * w) _ _ l h a
 
-module _ (s : List ℕ) (e id : ℕ) (closed : Bool) (c : ℕ) (counts : List ℕ) (i n : ℕ) (total : n ≡ c + sumOf (λ k. k) counts) (few : n ≤ 512) where
-  listed : rest e i (4 * (6 * n)) (all32 s (6 * n) i) (record { id = id; shape = outline closed (cornersAt s c i) (holesAt s counts (i + 24 * c)) }) ≡ outlineCorners s e id closed c counts i
+module _ (s : List ℕ) (e id : ℕ) (closed : Bool) (c : ℕ) (counts : List ℕ) (i n : ℕ) (total : n ≡ c + sumOf (λ k. k) counts) (few : n ≤ mostCorners) where
+  listed : rest e i (4 * (6 * n)) (all32 s (6 * n) i) (record { id = id; shape = outline closed (cornersAt s c i) (holesAt s counts (i + cornerBytes * c)) }) ≡ outlineCorners s e id closed c counts i
   unfolding outlineCorners
-  listed = let z : 4 * (6 * n) ≡ 24 * n = omega arith in rw (← total, le-ltb 512 n few, z)
+  listed = let z : 4 * (6 * n) ≡ cornerBytes * n = omega arith in rw (← total, le-ltb mostCorners n few, z)
 
   pub corners-rest : {r : RecordEnd} → ((o : Object) → r ≡ endOf (rest e i (4 * (6 * n)) (all32 s (6 * n) i) o)) → r ≡ endOf (outlineCorners s e id closed c counts i)
   corners-rest f = f _ ∙ ap endOf listed
 
-module _ (s : List ℕ) (e id : ℕ) (shape : List Section → Shape) (i n : ℕ) (is : n ≡ u16At s i) (l : i ≤ e) (f : 2 ≤ e - i) (few : n ≤ 4096) where
+module _ (s : List ℕ) (e id : ℕ) (shape : List Section → Shape) (i n : ℕ) (is : n ≡ u16At s i) (l : i ≤ e) (f : 2 ≤ e - i) (few : n ≤ mostSections) where
   swept : rest e (i + 2) (4 * (12 * n)) (all32 s (12 * n) (i + 2)) (record { id = id; shape = shape (sectionsAt s n (i + 2)) }) ≡ sweepAt s e id shape i
   unfolding sweepAt
-  swept = let z : 4 * (12 * n) ≡ 48 * n = omega arith in rw (← is, le-ltb e (i + 2) (omega arith), le-ltb 4096 n few, z)
+  swept = let z : 4 * (12 * n) ≡ sectionBytes * n = omega arith in rw (← is, le-ltb e (i + 2) (omega arith), le-ltb mostSections n few, z)
 
   pub sweep-rest : {r : RecordEnd} → ((o : Object) → r ≡ endOf (rest e (i + 2) (4 * (12 * n)) (all32 s (12 * n) (i + 2)) o)) → r ≡ endOf (sweepAt s e id shape i)
   sweep-rest g = g _ ∙ ap endOf swept

@@ -8,6 +8,7 @@ ghost use lib.ListN.{length};
 ghost use Rattle.object.specs.declared.Extent.{Extent};
 ghost use Rattle.object.specs.declared.Section.{Section};
 ghost use Rattle.object.specs.Object.{Shape, Object};
+ghost use Rattle.fields.specs.Layout.{mostHoles};
 ghost use Rattle.fields.specs.Fields.{all32};
 ghost use Rattle.scene.specs.Scene.{rest, solidAt, outlineOf, outlineAt, sweepAt, kindAt, recordAt};
 ghost use Rattle.scene.specs.Answers.{endOf};
@@ -16,6 +17,11 @@ use allowed::orientation_allowed;
 use fields::u16_in;
 use hole_counts::sum_counts;
 use rows::Refusal;
+use scene::layout::MOST_CORNERS;
+use scene::layout::MOST_HOLES;
+use scene::layout::MOST_SECTIONS;
+use scene::layout::ORIENTATION_BYTES;
+use scene::layout::POSITION_BYTES;
 use scene::records::RecordEnd;
 
 // A solid with w sizes; its position is at i.
@@ -23,13 +29,14 @@ fn check_solid(s: &[u8], e: usize, i: usize, w: usize) -> RecordEnd
     requires { ⌜ (i ≤ e) × (e ≤ length (now s)) × (w ≤ 3) ⌝ }
     ensures { λ r. ⌜ ((id : ℕ) (x : Extent) → r ≡ endOf (solidAt (now (s .entry)) e id i w x)) ⌝ }
 {
-    let size = 60 + 4 * w;
+    let before = POSITION_BYTES + ORIENTATION_BYTES;
+    let size = before + 4 * w;
     if e - i < size {
         return RecordEnd::Bad(Refusal::Past);
     }
     let allowed = all_allowed32(s, 3, i)
-        & orientation_allowed(s, i + 12)
-        & all_allowed32(s, w, i + 60);
+        & orientation_allowed(s, i + POSITION_BYTES)
+        & all_allowed32(s, w, i + before);
     if !allowed {
         return RecordEnd::Bad(Refusal::Numbers);
     }
@@ -53,11 +60,11 @@ fn check_numbers(s: &[u8], e: usize, i: usize, n: usize) -> RecordEnd
 
 // An outline whose counts, at i, are read but for those of its holes.
 fn check_corners(s: &[u8], e: usize, i: usize, outer: u16, holes: u16) -> RecordEnd
-    requires { ⌜ (i + 4 + 2 * holes ≤ e) × (e ≤ length (now s)) × (holes ≤ 32) ⌝ }
+    requires { ⌜ (i + 4 + 2 * holes ≤ e) × (e ≤ length (now s)) × (holes ≤ mostHoles) ⌝ }
     ensures { λ r. ⌜ ((id : ℕ) (closed : Bool) → r ≡ endOf (outlineOf (now (s .entry)) e id closed outer holes i)) ⌝ }
 {
     let n = (outer as usize) + sum_counts(s, holes, i + 4);
-    if 512 < n {
+    if MOST_CORNERS < n {
         return RecordEnd::Bad(Refusal::Counts);
     }
     check_numbers(s, e, i + 4 + 2 * (holes as usize), 6 * n)
@@ -73,7 +80,7 @@ fn check_outline(s: &[u8], e: usize, i: usize) -> RecordEnd
     }
     let outer = u16_in(s, i);
     let holes = u16_in(s, i + 2);
-    if 32 < holes {
+    if MOST_HOLES < holes {
         return RecordEnd::Bad(Refusal::Counts);
     }
     if e - i < 4 + 2 * (holes as usize) {
@@ -91,7 +98,7 @@ fn check_sweep(s: &[u8], e: usize, i: usize) -> RecordEnd
         return RecordEnd::Bad(Refusal::Past);
     }
     let n = u16_in(s, i);
-    if 4096 < n {
+    if MOST_SECTIONS < n {
         return RecordEnd::Bad(Refusal::Counts);
     }
     check_numbers(s, e, i + 2, 12 * (n as usize))

@@ -11,11 +11,12 @@ use Rattle.lists.specs.Each.{Each}
 use Rattle.lists.specs.Loops.{sumOf}
 use Rattle.float.specs.Number.{allowed32, allowed64}
 use Rattle.object.specs.declared.Extent.{Extent}
-use Rattle.object.specs.declared.Extent.the-variants.{Box, Cylinder, Unsized}
+use Rattle.object.specs.declared.Extent.the-variants.{Unsized}
 use Rattle.object.specs.declared.Section.{Section}
 use Rattle.object.specs.Object.{Shape, sweep, roundSweep, Object}
 use Rattle.rows.specs.declared.Refusal.the-variants.{Length, Trailer, Start, Past, Kind, Counts, Numbers}
-use Rattle.fields.specs.Fields.{u16At, u32At, f32At, f64At, pointAt, cornerAt, sectionAt, orientationAt, pairAt, cornersAt, sectionsAt, countsAt, holesAt, all32, all64}
+use Rattle.fields.specs.Layout.{mostBytes, mostObjects, mostHoles, mostCorners, mostSections, cornerBytes, sectionBytes, positionBytes, orientationBytes, orientationFrom, sizesFrom}
+use Rattle.fields.specs.Fields.{u16At, u32At, f32At, f64At, boxAt, cylinderAt, pointAt, cornerAt, sectionAt, orientationAt, pairAt, cornersAt, sectionsAt, countsAt, holesAt, all32, all64}
 use Rattle.scene.specs.Scene.{Record, bad, good, rest, solidAt, outlineCorners, outlineAt, sweepAt, kindAt, recordAt, Scene, refused, accepted, prepend, recordThen, recordsFrom, trailer, countAt, scene}
 use Rattle.lists.proofs.Loops.{either, unless}
 use Rattle.lists.proofs.Lists.{every-list, each-list}
@@ -120,27 +121,27 @@ module _ (s : List ℕ) where
   rest-near e i n true o h = either NearRecord (ltb e (i + n)) {x = bad Past} {y = good o (i + n)} tt (h tt)
   rest-near e i n false o h = either NearRecord (ltb e (i + n)) {x = bad Past} {y = bad Numbers} tt tt
 
-  solid-near : (e id i w : ℕ) (x : Extent) → (Block (i + 60) w → NearX x) → NearRecord (solidAt s e id i w x)
+  solid-near : (e id i w : ℕ) (x : Extent) → (Block (sizesFrom i) w → NearX x) → NearRecord (solidAt s e id i w x)
   unfolding solidAt
   solid-near e id i w x h =
-      rest-near e i (60 + 4 * w) (all32 s 3 i && all64 s 6 (i + 12) && all32 s w (i + 60)) _
+      rest-near e i (positionBytes + orientationBytes + 4 * w) (all32 s 3 i && all64 s 6 (orientationFrom i) && all32 s w (sizesFrom i)) _
       (λ t. (
-        point-near i (block 3 i (and-l (all32 s 3 i) (all64 s 6 (i + 12)) (and-l (all32 s 3 i && all64 s 6 (i + 12)) (all32 s w (i + 60)) t))),
-        turn-near (i + 12) (and-r (all32 s 3 i) (all64 s 6 (i + 12)) (and-l (all32 s 3 i && all64 s 6 (i + 12)) (all32 s w (i + 60)) t)),
-        h (block w (i + 60) (and-r (all32 s 3 i && all64 s 6 (i + 12)) (all32 s w (i + 60)) t)),
+        point-near i (block 3 i (and-l (all32 s 3 i) (all64 s 6 (orientationFrom i)) (and-l (all32 s 3 i && all64 s 6 (orientationFrom i)) (all32 s w (sizesFrom i)) t))),
+        turn-near (orientationFrom i) (and-r (all32 s 3 i) (all64 s 6 (orientationFrom i)) (and-l (all32 s 3 i && all64 s 6 (orientationFrom i)) (all32 s w (sizesFrom i)) t)),
+        h (block w (sizesFrom i) (and-r (all32 s 3 i && all64 s 6 (orientationFrom i)) (all32 s w (sizesFrom i)) t)),
       ))
 
   outline-corners-near : (e id : ℕ) (closed : Bool) (c : ℕ) (counts : List ℕ) (i : ℕ) → NearRecord (outlineCorners s e id closed c counts i)
   unfolding outlineCorners
   outline-corners-near e id closed c counts i =
       let n = c + sumOf (λ k. k) counts in
-      unless NearRecord (ltb 512 n) {x = bad Counts} tt
-      (λ few. rest-near e i (24 * n) (all32 s (6 * n) i) _
+      unless NearRecord (ltb mostCorners n) {x = bad Counts} tt
+      (λ few. rest-near e i (cornerBytes * n) (all32 s (6 * n) i) _
       (λ t.
       let b = block (6 * n) i t in (
         corners-near c i (λ k j h q. b k j (inside k c (sumOf (λ k. k) counts) h) q),
         holes-near counts (i + 24 * c) (λ k j h q. b (6 * c + k) j (beyond k c (sumOf (λ k. k) counts) h) (moved i c k j q)),
-        subst (λ (m : ℕ). m ≤ 512) (sym (corners-count s c i counts (i + 24 * c))) (nltb→le 512 n few),
+        subst (λ (m : ℕ). m ≤ mostCorners) (sym (corners-count s c i counts (i + 24 * c))) (nltb→le mostCorners n few),
       )))
     where
       inside : (k c n : ℕ) → k < 6 * c → k < 6 * (c + n)
@@ -157,7 +158,7 @@ module _ (s : List ℕ) where
   outline-near e id closed i =
       let holes = u16At s (i + 2) in
       either NearRecord (ltb e (i + 4)) {x = bad Past} tt
-      (either NearRecord (ltb 32 holes) {x = bad Counts} tt
+      (either NearRecord (ltb mostHoles holes) {x = bad Counts} tt
       (either NearRecord (ltb e (i + 4 + 2 * holes)) {x = bad Past} tt
       (outline-corners-near e id closed (u16At s i) (countsAt s holes (i + 4)) (i + 4 + 2 * holes))))
 
@@ -166,15 +167,15 @@ module _ (s : List ℕ) where
   sweep-near e id shape h i =
       let n = u16At s i in
       either NearRecord (ltb e (i + 2)) {x = bad Past} tt
-      (either NearRecord (ltb 4096 n) {x = bad Counts} tt
-      (rest-near e (i + 2) (48 * n) (all32 s (12 * n) (i + 2)) _ (λ t. h (sectionsAt s n (i + 2)) (sections-near n (i + 2) (block (12 * n) (i + 2) t)))))
+      (either NearRecord (ltb mostSections n) {x = bad Counts} tt
+      (rest-near e (i + 2) (sectionBytes * n) (all32 s (12 * n) (i + 2)) _ (λ t. h (sectionsAt s n (i + 2)) (sections-near n (i + 2) (block (12 * n) (i + 2) t)))))
 
   kind-near : (e id i kind : ℕ) → NearRecord (kindAt s e id i kind)
   unfolding kindAt
   kind-near e id i kind =
       either NearRecord (eqb kind 0) (solid-near e id i 0 Unsized (λ b. tt))
-      (either NearRecord (eqb kind 1) (solid-near e id i 3 (Box (f32At s (i + 60)) (f32At s (i + 64)) (f32At s (i + 68))) (λ b. (b 0 (i + 60) (omega arith) (omega arith), b 1 (i + 64) (omega arith) (omega arith), b 2 (i + 68) (omega arith) (omega arith))))
-      (either NearRecord (eqb kind 2) (solid-near e id i 2 (Cylinder (f32At s (i + 60)) (f32At s (i + 64))) (λ b. (b 0 (i + 60) (omega arith) (omega arith), b 1 (i + 64) (omega arith) (omega arith))))
+      (either NearRecord (eqb kind 1) (solid-near e id i 3 (boxAt s (sizesFrom i)) (λ b. (b 0 (sizesFrom i) (omega arith) (omega arith), b 1 (sizesFrom i + 4) (omega arith) (omega arith), b 2 (sizesFrom i + 8) (omega arith) (omega arith))))
+      (either NearRecord (eqb kind 2) (solid-near e id i 2 (cylinderAt s (sizesFrom i)) (λ b. (b 0 (sizesFrom i) (omega arith) (omega arith), b 1 (sizesFrom i + 4) (omega arith) (omega arith))))
       (either NearRecord (eqb kind 3) (outline-near e id false i)
       (either NearRecord (eqb kind 4) (outline-near e id true i)
       (either NearRecord (eqb kind 5) (sweep-near e id sweep (λ ss n. n) i)
@@ -207,8 +208,8 @@ module _ (s : List ℕ) where
   unfolding scene
   scene-near =
       let n = countAt s in
-      either NearScene (ltb (length s) 4 || ltb 16777216 (length s)) {x = refused Length 0} tt
-      (either NearScene (ltb 65536 n || ltb (length s) (4 * n + 4)) {x = refused Trailer 0} tt (records-near (trailer s n) n 0 0))
+      either NearScene (ltb (length s) 4 || ltb mostBytes (length s)) {x = refused Length 0} tt
+      (either NearScene (ltb mostObjects n || ltb (length s) (4 * n + 4)) {x = refused Trailer 0} tt (records-near (trailer s n) n 0 0))
 
   pub accepted-near : (os : List Object) → scene s ≡ accepted os → Each (λ (o : Object). NearShape (o .shape)) os
   accepted-near os e = subst NearScene e scene-near

@@ -12,6 +12,7 @@ use Rattle.object.specs.declared.Section.{Section}
 use Rattle.object.specs.declared.Extent.{Extent}
 use Rattle.object.specs.Object.{Shape}
 use Rattle.rows.specs.declared.Refusal.the-variants.{Past, Kind, Counts}
+use Rattle.fields.specs.Layout.{mostHoles, mostCorners, mostSections, positionBytes, orientationBytes}
 use Rattle.fields.specs.Fields.{u16At, u32At, countsAt}
 use Rattle.scene.specs.Scene.{Record, bad, rest, solidAt, outlineCorners, outlineOf, outlineAt, sweepAt, kindAt, recordAt}
 use Rattle.scene.specs.declared.records.RecordEnd.{RecordEnd}
@@ -29,9 +30,9 @@ room e i n l h = le-ltb e (i + n) (omega arith)
 -- ---- a solid
 
 module _ (s : List ℕ) (e id i w : ℕ) (x : Extent) where
-  pub solid-past : e - i < 60 + 4 * w → bad Past ≡ solidAt s e id i w x
+  pub solid-past : e - i < positionBytes + orientationBytes + 4 * w → bad Past ≡ solidAt s e id i w x
   unfolding solidAt rest
-  solid-past h = rw (past e i (60 + 4 * w) h)
+  solid-past h = rw (past e i (positionBytes + orientationBytes + 4 * w) h)
 
 -- ---- an outline
 
@@ -47,9 +48,9 @@ counts-past s n i h = zeros n 0
     zeros (suc m) k = omega (arith, u16-past s (i + 2 * k) (further (length s) i k h), zeros m (suc k))
 
 module _ (s : List ℕ) (e id : ℕ) (closed : Bool) (c : ℕ) (counts : List ℕ) (i n : ℕ) (total : n ≡ c + sumOf (λ k. k) counts) where
-  pub corners-many : 512 < n → bad Counts ≡ outlineCorners s e id closed c counts i
+  pub corners-many : mostCorners < n → bad Counts ≡ outlineCorners s e id closed c counts i
   unfolding outlineCorners
-  corners-many h = rw (← total, lt-ltb 512 n h)
+  corners-many h = rw (← total, lt-ltb mostCorners n h)
 
 pub outline-past : (s : List ℕ) (e id : ℕ) (closed : Bool) (i : ℕ) → e - i < 4 → bad Past ≡ outlineAt s e id closed i
 unfolding outlineAt
@@ -59,19 +60,19 @@ module _ (s : List ℕ) (e id : ℕ) (closed : Bool) (i outer holes : ℕ) (o : 
   abbrev hollow : Record
   hollow = outlineOf s e id closed outer holes i
 
-  pub outline-many : 32 < holes → bad Counts ≡ outlineAt s e id closed i
+  pub outline-many : mostHoles < holes → bad Counts ≡ outlineAt s e id closed i
   unfolding outlineAt
-  outline-many m = rw (← h, room e i 4 l f, lt-ltb 32 holes m)
+  outline-many m = rw (← h, room e i 4 l f, lt-ltb mostHoles holes m)
 
-  pub outline-counts : holes ≤ 32 → e - i < 4 + 2 * holes → bad Past ≡ outlineAt s e id closed i
+  pub outline-counts : holes ≤ mostHoles → e - i < 4 + 2 * holes → bad Past ≡ outlineAt s e id closed i
   unfolding outlineAt
-  outline-counts m p = rw (← h, room e i 4 l f, le-ltb 32 holes m, lt-ltb e (i + 4 + 2 * holes) (omega arith))
+  outline-counts m p = rw (← h, room e i 4 l f, le-ltb mostHoles holes m, lt-ltb e (i + 4 + 2 * holes) (omega arith))
 
-  listed : holes ≤ 32 → 4 + 2 * holes ≤ e - i → hollow ≡ outlineAt s e id closed i
+  listed : holes ≤ mostHoles → 4 + 2 * holes ≤ e - i → hollow ≡ outlineAt s e id closed i
   unfolding outlineAt
-  listed m p = rw (← h, ← o, room e i 4 l f, le-ltb 32 holes m, le-ltb e (i + 4 + 2 * holes) (omega arith))
+  listed m p = rw (← h, ← o, room e i 4 l f, le-ltb mostHoles holes m, le-ltb e (i + 4 + 2 * holes) (omega arith))
 
-  pub outline-corners : holes ≤ 32 → 4 + 2 * holes ≤ e - i → {r : RecordEnd} → r ≡ endOf hollow → r ≡ endOf (outlineAt s e id closed i)
+  pub outline-corners : holes ≤ mostHoles → 4 + 2 * holes ≤ e - i → {r : RecordEnd} → r ≡ endOf hollow → r ≡ endOf (outlineAt s e id closed i)
   outline-corners m p q = q ∙ ap endOf (listed m p)
 
 -- ---- a sweep
@@ -81,9 +82,9 @@ unfolding sweepAt
 sweep-past s e id shape i h = rw (past e i 2 h)
 
 module _ (s : List ℕ) (e id : ℕ) (shape : List Section → Shape) (i n : ℕ) (is : n ≡ u16At s i) (l : i ≤ e) (f : 2 ≤ e - i) where
-  pub sweep-many : 4096 < n → bad Counts ≡ sweepAt s e id shape i
+  pub sweep-many : mostSections < n → bad Counts ≡ sweepAt s e id shape i
   unfolding sweepAt
-  sweep-many m = rw (← is, room e i 2 l f, lt-ltb 4096 n m)
+  sweep-many m = rw (← is, room e i 2 l f, lt-ltb mostSections n m)
 
 -- ---- by the kind
 

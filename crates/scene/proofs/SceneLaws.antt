@@ -13,6 +13,7 @@ use Rattle.rows.specs.declared.Refusal.the-variants.{Length, Trailer, Start}
 use Rattle.scene.specs.declared.records.RecordEnd.the-variants.{Bad, At}
 use Rattle.scene.specs.declared.scenes.Checked.{Checked}
 use Rattle.scene.specs.declared.scenes.Checked.the-variants.{Refused, Accepted}
+use Rattle.fields.specs.Layout.{mostBytes, mostObjects}
 use Rattle.fields.specs.Fields.{u32At}
 use Rattle.scene.specs.Scene.{Record, bad, good, recordAt, Scene, refused, accepted, prepend, recordThen, recordsFrom, trailer, countAt, scene}
 use Rattle.scene.specs.Answers.{endOf, checkedOf}
@@ -103,19 +104,19 @@ module _ (s : List ℕ) where
   unfolding scene
   scene-short h = rw (lt-ltb (length s) 4 h)
 
-  pub scene-long : 4 ≤ length s → 16777216 < length s → Refused Length 0 ≡ checkedOf (scene s)
+  pub scene-long : 4 ≤ length s → mostBytes < length s → Refused Length 0 ≡ checkedOf (scene s)
   unfolding scene
-  scene-long l h = rw (le-ltb (length s) 4 l, lt-ltb 16777216 (length s) h)
+  scene-long l h = rw (le-ltb (length s) 4 l, lt-ltb mostBytes (length s) h)
 
-  module _ (l : 4 ≤ length s) (u : length s ≤ 16777216) (n : ℕ) (is : n ≡ countAt s) where
-    pub scene-many : 65536 < n → Refused Trailer 0 ≡ checkedOf (scene s)
+  module _ (l : 4 ≤ length s) (u : length s ≤ mostBytes) (n : ℕ) (is : n ≡ countAt s) where
+    pub scene-many : mostObjects < n → Refused Trailer 0 ≡ checkedOf (scene s)
     unfolding scene
-    scene-many h = rw (le-ltb (length s) 4 l, le-ltb 16777216 (length s) u, ← is, lt-ltb 65536 n h)
+    scene-many h = rw (le-ltb (length s) 4 l, le-ltb mostBytes (length s) u, ← is, lt-ltb mostObjects n h)
 
-    pub scene-trailer : n ≤ 65536 → length s < 4 * n + 4 → Refused Trailer 0 ≡ checkedOf (scene s)
+    pub scene-trailer : n ≤ mostObjects → length s < 4 * n + 4 → Refused Trailer 0 ≡ checkedOf (scene s)
     unfolding scene
-    scene-trailer m h = rw (le-ltb (length s) 4 l, le-ltb 16777216 (length s) u, ← is, le-ltb 65536 n m, lt-ltb (length s) (4 * n + 4) h)
+    scene-trailer m h = rw (le-ltb (length s) 4 l, le-ltb mostBytes (length s) u, ← is, le-ltb mostObjects n m, lt-ltb (length s) (4 * n + 4) h)
 
-    pub scene-records : n ≤ 65536 → 4 * n + 4 ≤ length s → checkedOf (recordsFrom s (length s - (4 * n + 4)) n 0 0) ≡ checkedOf (scene s)
+    pub scene-records : n ≤ mostObjects → 4 * n + 4 ≤ length s → checkedOf (recordsFrom s (length s - (4 * n + 4)) n 0 0) ≡ checkedOf (scene s)
     unfolding scene trailer
-    scene-records m h = rw (le-ltb (length s) 4 l, le-ltb 16777216 (length s) u, ← is, le-ltb 65536 n m, le-ltb (length s) (4 * n + 4) h)
+    scene-records m h = rw (le-ltb (length s) 4 l, le-ltb mostBytes (length s) u, ← is, le-ltb mostObjects n m, le-ltb (length s) (4 * n + 4) h)

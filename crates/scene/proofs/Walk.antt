@@ -16,6 +16,7 @@ use Rattle.object.specs.Object.{Object}
 use Rattle.rows.specs.declared.Refusal.{Refusal}
 use Rattle.rows.specs.declared.Refusal.the-variants.{Length, Trailer, Start}
 use Rattle.scene.specs.declared.scenes.Checked.the-variants.{Refused, Accepted}
+use Rattle.fields.specs.Layout.{mostBytes, mostObjects}
 use Rattle.fields.specs.Fields.{u32At}
 use Rattle.scene.specs.Scene.{Record, bad, good, recordAt, Scene, refused, accepted, prepend, recordThen, recordsFrom, trailer, countAt, scene}
 use Rattle.scene.specs.Answers.{checkedOf, objectsOf}
@@ -107,7 +108,7 @@ module _ {s : List ℕ} {e n : ℕ} {os : List Object} {k i : ℕ} (w : Walking 
 
   pub walk-body : k < n → i + 5 ≤ e
   unfolding headerAt
-  walk-body l = let f = first-of l in longer i (bodySize s (i + 5) (bodyAt s (i + 5) (getD s i 0))) e (subst (λ (m : ℕ). m ≤ e) (f .here .ends) (f .here .inside))
+  walk-body l = let f = first-of l in longer i (bodySize (bodyAt s (i + 5) (getD s i 0))) e (subst (λ (m : ℕ). m ≤ e) (f .here .ends) (f .here .inside))
     where
       longer : (i m e : ℕ) → i + (5 + m) ≤ e → i + 5 ≤ e
       longer i m e h = omega arith
@@ -125,9 +126,9 @@ pub record AcceptedAs (s : List ℕ) (n : ℕ) (os : List Object) : Type 0 where
   pub is : scene s ≡ accepted os
   pub count : n ≡ countAt s
   pub size : length os ≡ n
-  pub few : n ≤ 65536
+  pub few : n ≤ mostObjects
   pub room : 4 * n + 4 ≤ length s
-  pub short : length s ≤ 16777216
+  pub short : length s ≤ mostBytes
   pub begins : Walking s (trailer s n) n os 0 0
 
 -- two tests in a row that both let pass
@@ -140,15 +141,15 @@ pub accepted-scene : (s : List ℕ) (os : List Object) → scene s ≡ accepted 
 unfolding scene
 accepted-scene s os h =
     let n = countAt s in
-    let p = passed (ltb (length s) 4) (ltb 16777216 (length s)) Length _ os h in
-    let q = passed (ltb 65536 n) (ltb (length s) (4 * n + 4)) Trailer (recordsFrom s (trailer s n) n 0 0) os (p .2) in
+    let p = passed (ltb (length s) 4) (ltb mostBytes (length s)) Length _ os h in
+    let q = passed (ltb mostObjects n) (ltb (length s) (4 * n + 4)) Trailer (recordsFrom s (trailer s n) n 0 0) os (p .2) in
     record {
       is = h;
       count = refl;
       size = all-records s (trailer s n) n 0 0 os (q .2);
-      few = ltb-false 65536 n (q .0);
+      few = ltb-false mostObjects n (q .0);
       room = ltb-false (length s) (4 * n + 4) (q .1);
-      short = ltb-false 16777216 (length s) (p .1);
+      short = ltb-false mostBytes (length s) (p .1);
       begins = record { rest = ap (λ (m : ℕ). recordsFrom s (trailer s n) m 0 0) (sub-zero n) ∙ q .2 };
     }
 

@@ -11,11 +11,12 @@ use Rattle.coords.specs.declared.Point.{Point}
 use Rattle.coords.specs.Coords.{point}
 use Rattle.object.specs.declared.Corner.{Corner}
 use Rattle.object.specs.declared.Extent.{Extent}
-use Rattle.object.specs.declared.Extent.the-variants.{Box, Cylinder, Unsized}
+use Rattle.object.specs.declared.Extent.the-variants.{Unsized}
 use Rattle.object.specs.declared.Pair.{Pair}
 use Rattle.object.specs.declared.Section.{Section}
 use Rattle.object.specs.declared.Orientation.{Orientation}
-use Rattle.fields.specs.Fields.{u16At, u32At, f32At, pointAt, orientationAt, cornersAt, sectionsAt, countsAt, holesAt, all32, all64}
+use Rattle.fields.specs.Layout.{mostBytes, mostObjects, mostHoles, mostCorners, mostSections, cornerBytes, sectionBytes, positionBytes, orientationBytes, orientationFrom, sizesFrom}
+use Rattle.fields.specs.Fields.{u16At, u32At, pointAt, orientationAt, boxAt, cylinderAt, cornersAt, sectionsAt, countsAt, holesAt, all32, all64}
 use Rattle.object.specs.Object.{Shape, solid, outline, sweep, roundSweep, Object}
 use Rattle.rows.specs.declared.Refusal.{Refusal}
 use Rattle.rows.specs.declared.Refusal.the-variants.{Length, Trailer, Start, Past, Kind, Counts, Numbers}
@@ -34,14 +35,15 @@ rest e i n allowed o = cond (ltb e (i + n)) (bad Past) (cond (not allowed) (bad 
 -- a solid, its position at place i, with w sizes
 unfoldable pub solidAt : List ℕ → ℕ → ℕ → ℕ → ℕ → Extent → Record
 solidAt s e id i w x =
-    rest e i (60 + 4 * w) (all32 s 3 i && all64 s 6 (i + 12) && all32 s w (i + 60)) (record { id = id; shape = solid (pointAt s i) (orientationAt s (i + 12)) x })
+    rest e i (positionBytes + orientationBytes + 4 * w) (all32 s 3 i && all64 s 6 (orientationFrom i) && all32 s w (sizesFrom i))
+    (record { id = id; shape = solid (pointAt s i) (orientationAt s (orientationFrom i)) x })
 
 -- an outline's corners from place i on: c outer ones, then those of each hole
 unfoldable pub outlineCorners : List ℕ → ℕ → ℕ → Bool → ℕ → List ℕ → ℕ → Record
 outlineCorners s e id closed c counts i =
     let n = c + sumOf (λ k. k) counts in
-    cond (ltb 512 n) (bad Counts)
-    (rest e i (24 * n) (all32 s (6 * n) i) (record { id = id; shape = outline closed (cornersAt s c i) (holesAt s counts (i + 24 * c)) }))
+    cond (ltb mostCorners n) (bad Counts)
+    (rest e i (cornerBytes * n) (all32 s (6 * n) i) (record { id = id; shape = outline closed (cornersAt s c i) (holesAt s counts (i + cornerBytes * c)) }))
 
 -- the same by the number of its holes: the outline's counts are at place i, theirs behind the first two, and then the corners
 abbrev pub outlineOf : List ℕ → ℕ → ℕ → Bool → ℕ → ℕ → ℕ → Record
@@ -52,7 +54,7 @@ unfoldable pub outlineAt : List ℕ → ℕ → ℕ → Bool → ℕ → Record
 outlineAt s e id closed i =
     let holes = u16At s (i + 2) in
     cond (ltb e (i + 4)) (bad Past)
-    (cond (ltb 32 holes) (bad Counts)
+    (cond (ltb mostHoles holes) (bad Counts)
     (cond (ltb e (i + 4 + 2 * holes)) (bad Past)
     (outlineOf s e id closed (u16At s i) holes i)))
 
@@ -61,15 +63,15 @@ unfoldable pub sweepAt : List ℕ → ℕ → ℕ → (List Section → Shape) �
 sweepAt s e id shape i =
     let n = u16At s i in
     cond (ltb e (i + 2)) (bad Past)
-    (cond (ltb 4096 n) (bad Counts)
-    (rest e (i + 2) (48 * n) (all32 s (12 * n) (i + 2)) (record { id = id; shape = shape (sectionsAt s n (i + 2)) })))
+    (cond (ltb mostSections n) (bad Counts)
+    (rest e (i + 2) (sectionBytes * n) (all32 s (12 * n) (i + 2)) (record { id = id; shape = shape (sectionsAt s n (i + 2)) })))
 
 -- what follows the kind and the id, by the kind
 unfoldable pub kindAt : List ℕ → ℕ → ℕ → ℕ → ℕ → Record
 kindAt s e id i kind =
     cond (eqb kind 0) (solidAt s e id i 0 Unsized)
-    (cond (eqb kind 1) (solidAt s e id i 3 (Box (f32At s (i + 60)) (f32At s (i + 64)) (f32At s (i + 68))))
-    (cond (eqb kind 2) (solidAt s e id i 2 (Cylinder (f32At s (i + 60)) (f32At s (i + 64))))
+    (cond (eqb kind 1) (solidAt s e id i 3 (boxAt s (sizesFrom i)))
+    (cond (eqb kind 2) (solidAt s e id i 2 (cylinderAt s (sizesFrom i)))
     (cond (eqb kind 3) (outlineAt s e id false i)
     (cond (eqb kind 4) (outlineAt s e id true i)
     (cond (eqb kind 5) (sweepAt s e id sweep i)
@@ -113,6 +115,6 @@ countAt s = u32At s (length s - 4)
 unfoldable pub scene : List ℕ → Scene
 scene s =
     let n = countAt s in
-    cond (ltb (length s) 4 || ltb 16777216 (length s)) (refused Length 0)
-    (cond (ltb 65536 n || ltb (length s) (4 * n + 4)) (refused Trailer 0)
+    cond (ltb (length s) 4 || ltb mostBytes (length s)) (refused Length 0)
+    (cond (ltb mostObjects n || ltb (length s) (4 * n + 4)) (refused Trailer 0)
     (recordsFrom s (trailer s n) n 0 0))

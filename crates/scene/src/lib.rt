@@ -2,5 +2,6 @@
 // checking pass goes over the bytes, and later passes read each record again where it lies.
 
 pub mod headers;
+pub mod layout;
 pub mod records;
 pub mod scenes;

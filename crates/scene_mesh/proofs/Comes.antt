@@ -12,7 +12,7 @@ use Rattle.lists.specs.Loops.{join, sumOf}
 use Rattle.object.specs.Object.{Object}
 use Rattle.scene.specs.declared.headers.Body.{Body}
 use Rattle.scene.specs.declared.headers.Body.the-variants.{Solid, Outline, Sweep}
-use Rattle.scene.specs.Headers.{bodyAt, bodySize, headerAt, objectOf}
+use Rattle.scene.specs.Headers.{bodyAt, bodySize, headerAt, objectOf, Limits}
 use Rattle.scene.specs.Scene.{accepted, scene, trailer, countAt}
 use Rattle.scene.proofs.Walk.{Walking, walk-object, walk-next, walk-limits, walk-inside, accepted-scene}
 use Rattle.face.proofs.Counts.{faces-account}
@@ -26,14 +26,14 @@ use Rattle.scene_mesh.proofs.MeshSizes.{output-counts}
 
 -- ---- a record's bytes
 
-body-least : (s : List ℕ) (i : ℕ) (body : Body) → 2 ≤ bodySize s i body
-body-least s i (Solid x) = omega arith
-body-least s i (Outline closed outer holes) = omega arith
-body-least s i (Sweep round sections) = omega arith
+body-least : (s : List ℕ) (i : ℕ) (body : Body) → Limits s i body → 2 ≤ bodySize body
+body-least s i (Solid p) l = omega (arith, l .orientation, l .sizes)
+body-least s i (Outline closed outer holes corners) l = omega arith
+body-least s i (Sweep round sections) l = omega arith
 
-pub record-least : (s : List ℕ) (i : ℕ) → 7 ≤ headerAt s i .size
+pub record-least : (s : List ℕ) (i : ℕ) → Limits s (i + 5) (headerAt s i .body) → 7 ≤ headerAt s i .size
 unfolding headerAt
-record-least s i = omega (arith, body-least s (i + 5) (bodyAt s (i + 5) (getD s i 0)))
+record-least s i l = omega (arith, body-least s (i + 5) (bodyAt s (i + 5) (getD s i 0)) l)
 
 one-or-none : {A : Type 0} (b : Bool) (x : A) → length (cond b [] (x ∷ [])) ≤ 1
 one-or-none true x = omega arith
@@ -87,7 +87,7 @@ module _ (limit : Float) where
         let size = headerAt s i .size in
         let inside = walk-inside w l in
         let bytes : size + (e - (i + size)) ≡ e - i = omega arith in
-        let c = comes-more (objectOf s i (headerAt s i)) (drop (k + 1) os) size (e - (i + size)) (record-least s i) (sized-here w l) (walk-comes m (k + 1) (i + size) (omega arith) inside (walk-next w l)) in
+        let c = comes-more (objectOf s i (headerAt s i)) (drop (k + 1) os) size (e - (i + size)) (record-least s i (walk-limits w l)) (sized-here w l) (walk-comes m (k + 1) (i + size) (omega arith) inside (walk-next w l)) in
         rw (walk-object w l, ← bytes) c
 
   -- the records of an accepted scene take what the trailer, of 4 bytes for each object and 4, leaves

@@ -13,7 +13,7 @@ use Rattle.scene.specs.declared.scenes.Checked.the-variants.{Accepted}
 use Rattle.scene.specs.Scene.{Scene, accepted, scene, trailer}
 use Rattle.scene.specs.Answers.{checkedOf, objectsOf}
 use Rattle.scene.specs.Headers.{bodyAt, headerAt, shapeOf}
-use Rattle.scene.proofs.Walk.{Walking, walk-object, walk-next, walk-limits, walk-inside, AcceptedAs, checked-accepted, trailer-inside}
+use Rattle.scene.proofs.Walk.{Walking, walk-object, walk-next, walk-limits, walk-body, walk-inside, AcceptedAs, checked-accepted, trailer-inside}
 use Rattle.shapes.specs.Drawn.{CanDraw}
 use Rattle.most.specs.declared.Most.{Most}
 use Rattle.most.specs.Most.{nothing, together, partOf, partOfAll, Few}
@@ -61,13 +61,16 @@ module _ {limit : Float} {lids exact : Bool} {s : List ℕ} {n : ℕ} {m : Most}
   sum = partOfAll lids exact limit
 
   module _ (l : k < n) where
+    pub record-inside : at < length s
+    record-inside = omega (arith, walk-body (w .walking) l, trailer-inside s n)
+
     can-draw : CanDraw s (at + 5) (headerAt s at .body) 0
     unfolding headerAt
     can-draw = record { limits = walk-limits (w .walking) l; inside = omega (arith, walk-inside (w .walking) l, trailer-inside s n); short = w .known .short; few = omega arith }
 
     few-next : Few (bound (headerAt s at)) (headerAt s at .size) 1
     unfolding headerAt
-    few-next = few-bound limit lids exact s (at + 5) (bodyAt s (at + 5) (getD s at 0))
+    few-next = few-bound limit lids exact s (at + 5) (bodyAt s (at + 5) (getD s at 0)) (walk-limits (w .walking) l)
 
     module _ {h : Header} (e : h ≡ headerAt s at) where
       pub can-read : CanDraw s (at + 5) (h .body) 0

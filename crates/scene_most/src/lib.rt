@@ -3,7 +3,7 @@
 // measuring lids takes far longer, and is left to last.
 ghost use mathlib.Core.Path.{_≡_};
 ghost use mathlib.Core.List.{List};
-ghost use Prim.Native.Nat.{ℕ, _≤_};
+ghost use Prim.Native.Nat.{ℕ};
 ghost use Rattle.object.specs.Object.{Object};
 ghost use Rattle.scene.specs.declared.scenes.Checked.the-variants.{Accepted};
 ghost use Rattle.scene.specs.Scene.{scene, accepted};
@@ -12,7 +12,6 @@ ghost use Rattle.scene.specs.Headers.{shapeOf, Limits};
 ghost use Rattle.shapes.specs.Drawn.{CanDraw};
 ghost use Rattle.most.specs.Most.{mostOf, exactOf, hasLid, inPart, partOf, partOfAll, Few};
 use headers::header_at;
-use hole_counts::sum_counts;
 use most::Most;
 use most::add;
 use most::of_shape;
@@ -23,18 +22,22 @@ use scene::headers::Body;
 
 // The most of the object whose record's body is at i.
 fn most_at(s: &[u8], i: usize, body: Body) -> Most
-    requires { ⌜ Limits (now s) i body × (i ≤ 16777216) ⌝ }
+    requires { ⌜ Limits (now s) i body ⌝ }
     ensures { λ r. ⌜ r ≡ mostOf (shapeOf (now (s .entry)) i body) ⌝ }
 {
     match body {
-        Body::Solid(extent) => solid_most(extent),
+        Body::Solid(p) => {
+            let extent = p.extent;
+            solid_most(extent)
+        }
         Body::Outline {
             closed,
             outer,
             holes,
+            corners,
         } => {
-            let inner = sum_counts(s, holes, i + 4);
-            outline_most(closed, outer as u32, inner as u32, holes as u32)
+            let first = outer as u32;
+            outline_most(closed, first, corners - first, holes as u32)
         }
         Body::Sweep { round, sections } => sweep_most(round, sections as u32),
     }

@@ -2,17 +2,20 @@
 ghost use mathlib.Core.Path.{_≡_};
 ghost use Prim.Native.Nat.{_+_, _*_, _≤_};
 ghost use lib.ListN.{length};
+ghost use Rattle.fields.specs.Layout.{mostObjects};
 ghost use Rattle.scene.specs.Scene.{scene, recordsFrom};
 ghost use Rattle.scene.specs.Answers.{checkedOf};
 use fields::u32_in;
 use records::check_record;
 use rows::Refusal;
+use scene::layout::MOST_BYTES;
+use scene::layout::MOST_OBJECTS;
 use scene::records::RecordEnd;
 use scene::scenes::Checked;
 
 // The n records before the trailer's start e.
 fn check_records(s: &[u8], e: usize, n: u32) -> Checked
-    requires { ⌜ (e + 4 * n ≤ length (now s)) × (n ≤ 65536) ⌝ }
+    requires { ⌜ (e + 4 * n ≤ length (now s)) × (n ≤ mostObjects) ⌝ }
     ensures { λ r. ⌜ r ≡ checkedOf (recordsFrom (now (s .entry)) e n 0 0) ⌝ }
 {
     let mut i = 0;
@@ -45,11 +48,11 @@ pub fn check_scene(s: &[u8]) -> Checked
     if len < 4 {
         return Checked::Refused(Refusal::Length, 0);
     }
-    if 16_777_216 < len {
+    if MOST_BYTES < len {
         return Checked::Refused(Refusal::Length, 0);
     }
     let n = u32_in(s, len - 4);
-    if 65_536 < n {
+    if MOST_OBJECTS < n {
         return Checked::Refused(Refusal::Trailer, 0);
     }
     let size = 4 * (n as usize) + 4;

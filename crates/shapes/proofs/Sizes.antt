@@ -1,5 +1,5 @@
 -- How many points, triangles and log entries a shape has, by the bytes of its record and the limits of document 01, section 1: so that all counts fit u32. Assumes nothing.
-use mathlib.Core.Path.{_≡_, refl, _∙_}
+use mathlib.Core.Path.{_≡_, refl, sym, _∙_}
 use mathlib.Core.Bool.{Bool, true, false, _&&_, cond}
 use mathlib.Core.List.{List, [], _∷_, _++_, map}
 use Prim.Native.Nat.{ℕ, _+_, _-_, _*_, _^_, _≤_, _<_, zero-le}
@@ -22,8 +22,8 @@ use Rattle.object.specs.declared.Orientation.{Orientation}
 use Rattle.object.specs.Object.{Shape, solid, outline, sweep, roundSweep, frame}
 use Rattle.scene.specs.declared.headers.Body.{Body}
 use Rattle.scene.specs.declared.headers.Body.the-variants.{Solid, Outline, Sweep}
-use Rattle.fields.specs.Fields.{pointAt, orientationAt, countsAt, cornersAt, holesAt, sectionsAt}
-use Rattle.scene.specs.Headers.{bodySize, shapeOf, Limits}
+use Rattle.fields.specs.Fields.{pointAt, countsAt, cornersAt, holesAt, sectionsAt}
+use Rattle.scene.specs.Headers.{bodySize, orientationOf, shapeOf, Limits}
 use Rattle.scene.proofs.Parts.{holes-length, corners-count, sections-length, counts-length}
 use Rattle.face.specs.Faces.{Triangle, Face, quad, fan}
 use Rattle.face.specs.Drawing.{tally, Room}
@@ -296,16 +296,23 @@ outline-sized closed cs holes c h p q l m =
       log = few-entries closed cs holes _ (omega arith);
     }
 
-pub body-sized : (s : List ℕ) (i : ℕ) (body : Body) → Limits s i body → Sized (5 + bodySize s i body) (shapeOf s i body)
+pub body-sized : (s : List ℕ) (i : ℕ) (body : Body) → Limits s i body → Sized (5 + bodySize body) (shapeOf s i body)
 unfolding facesOf offered logOf
-body-sized s i (Solid x) l =
-    let o = pointAt s i in
-    let t = orientationAt s (i + 12) in
-    record { points = omega (arith, solid-points o t x); triangles = omega (arith, offered-count (solid o t x), solid-most x); entries = omega arith; log = omega arith }
-body-sized s i (Outline closed outer holes) l =
+body-sized s i (Solid p) l =
+    let o = pointAt s (p .position) in
+    let t = orientationOf s p in
+    let first = l .orientation in
+    let second = l .sizes in
+    record {
+      points = omega (arith, solid-points o t (p .extent));
+      triangles = omega (arith, offered-count (solid o t (p .extent)), solid-most (p .extent));
+      entries = omega arith;
+      log = omega arith;
+    }
+body-sized s i (Outline closed outer holes corners) l =
     let counts = countsAt s holes (i + 4) in
     let at = i + 4 + 2 * holes in
-    outline-sized closed (cornersAt s outer at) (holesAt s counts (at + 24 * outer)) (outer + total counts) holes (corners-count s outer at counts (at + 24 * outer)) (holes-length s counts (at + 24 * outer) ∙ counts-length s holes (i + 4)) (l .1) (l .0)
+    outline-sized closed (cornersAt s outer at) (holesAt s counts (at + 24 * outer)) corners holes (corners-count s outer at counts (at + 24 * outer) ∙ sym (l .total)) (holes-length s counts (at + 24 * outer) ∙ counts-length s holes (i + 4)) (l .most) (l .few)
 body-sized s i (Sweep false n) l =
     let ss = sectionsAt s n (i + 2) in
     let e = sections-length s n (i + 2) in

@@ -8,6 +8,7 @@ use denote.Ref.{now}
 use lib.Ieee.{Float}
 use Rattle.lists.specs.Slices.{Slice}
 use Rattle.object.specs.Object.{Shape}
+use Rattle.fields.specs.Layout.{mostBytes}
 use Rattle.scene.specs.declared.headers.Body.{Body}
 use Rattle.scene.specs.Headers.{bodySize, Limits}
 use Rattle.face.specs.Drawing.{tally, drawing}
@@ -20,8 +21,8 @@ use Rattle.shapes.specs.Price.{offered}
 -- The body at place i, behind its record's kind and id, is one of an accepted scene, and no more vertices lie before it than a count of their numbers can tell.
 pub record CanDraw (s : List ℕ) (i : ℕ) (body : Body) (before : ℕ) : Type 0 where
   pub limits : Limits s i body
-  pub inside : i + bodySize s i body ≤ length s
-  pub short : length s ≤ 16777216
+  pub inside : i + bodySize body ≤ length s
+  pub short : length s ≤ mostBytes
   pub few : 3 * before < 2 ^ 32
 
 -- The shape drawn from the start of the lent buffers, its log written from the start of the lent log. A store past a buffer's end is left out.

@@ -1,21 +1,29 @@
 // A solid drawn from its record: a box, a cylinder, or nothing where it has no size.
-ghost use Prim.Native.Nat.{_+_, _≤_};
-ghost use lib.ListN.{length};
-ghost use Rattle.fields.specs.Fields.{pointAt, orientationAt};
+ghost use mathlib.Core.Path.{_≡_};
+ghost use Rattle.fields.specs.Fields.{pointAt};
+ghost use Rattle.scene.specs.Headers.{orientationOf, SolidIn};
 ghost use Rattle.face.specs.Drawing.{Room};
 ghost use Rattle.shapes.specs.Stages.{solidStages, DrawsStages};
 use boxes::cuboid;
 use cylinders::cylinder;
 use face::Tally;
 use object::Extent;
+use object::Orientation;
+use scene::headers::SolidAt;
 use shapes::StageTallies;
 
-// A solid whose position and orientation lie at i of the scene's bytes: what was written and counted
-// after each stage.
+// The orientation of a solid: nothing else reads it.
+fn orientation_of(s: &[u8], p: SolidAt) -> Orientation
+    requires { ⌜ SolidIn (now s) p ⌝ }
+    ensures { λ r. ⌜ r ≡ orientationOf (now (s .entry)) p ⌝ }
+{
+    geometry::orientation_at(s, p.orientation)
+}
+
+// A solid where it stands in the scene's bytes: what was written and counted after each stage.
 pub fn solid(
     s: &[u8],
-    i: usize,
-    extent: Extent,
+    p: SolidAt,
     limit: f32,
     before: u32,
     t: Tally,
@@ -23,11 +31,12 @@ pub fn solid(
     ns: &mut [f32],
     is: &mut [u32],
 ) -> StageTallies
-    requires { ⌜ (i + 60 ≤ length (now s)) × Room before t 96 60 ⌝ }
-    ensures { λ r. ⌜ DrawsStages limit (solidStages (pointAt (now (s .entry)) i) (orientationAt (now (s .entry)) (i + 12)) extent) before t r vs ns is ⌝ }
+    requires { ⌜ SolidIn (now s) p × Room before t 96 60 ⌝ }
+    ensures { λ r. ⌜ DrawsStages limit (solidStages (pointAt (now (s .entry)) (p .position)) (orientationOf (now (s .entry)) p) (p .extent)) before t r vs ns is ⌝ }
 {
-    let origin = geometry::point_at(s, i);
-    let turn = geometry::orientation_at(s, i + 12);
+    let origin = geometry::point_at(s, p.position);
+    let turn = orientation_of(s, p);
+    let extent = p.extent;
     match extent {
         Extent::Box(length, width, height) => {
             cuboid(

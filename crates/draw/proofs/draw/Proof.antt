@@ -5,6 +5,7 @@ use native.Mathlib.Omega.{arith}
 use borrow.Author.Needs.{needs}
 use Rattle.lid.specs.Log.{logNumbers}
 use Rattle.lists.specs.Loops.{join}
+use Rattle.scene.proofs.HeaderLaws.{solid-in}
 use Rattle.outlines.proofs.OutlineLaws.{can-place}
 use Rattle.shapes.specs.Price.{offered}
 use Rattle.shapes.specs.Shapes.{logOf}
@@ -15,10 +16,10 @@ use Rattle.draw.proofs.draw.Tie as tie
 solid-requires : tie.Need-solid-requires
 solid-requires c κs =
     let d = rw (c .before .before .before .before .before .before .body .given .1) at (c .before .before .before .before .before .before .before .before .before .before .before .before .before .pre) in
-    (omega (arith, d .inside), record { vertices = omega (arith, d .few); kept = omega arith; thin = omega arith })
+    (solid-in _ _ _ (d .limits) (d .inside), record { vertices = omega (arith, d .few); kept = omega arith; thin = omega arith })
 
 outline-requires : tie.Need-outline-requires
-outline-requires c κs = let d = rw (c .before .before .before .before .before .body2 .given .1) at (c .before .before .before .before .before .before .before .before .before .before .before .before .pre) in (can-place _ _ _ _ _ _ d, d .few)
+outline-requires c κs = let d = rw (c .before .before .before .before .before .body2 .given .1) at (c .before .before .before .before .before .before .before .before .before .before .before .before .pre) in (can-place _ _ _ _ _ _ _ d, d .few)
 
 draw-sections-requires : tie.Need-draw-sections-requires
 draw-sections-requires c κs = let d = rw (c .before .before .before .before .body3 .given .1) at (c .before .before .before .before .before .before .before .before .before .before .before .pre) in (omega (arith, d .inside), d .limits, d .few)

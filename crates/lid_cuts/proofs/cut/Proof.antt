@@ -9,14 +9,14 @@ use Rattle.lid_cuts.proofs.cut.Statement.{statement}
 use Rattle.lid_cuts.proofs.cut.Tie as tie
 
 lay-flat-requires : tie.Need-lay-flat-requires
-lay-flat-requires c κs = let p = c .before .before .before .before .before .before .before .pre in (omega (arith, p .0 .place, p .0 .all, p .0 .placed .inside), p .1)
+lay-flat-requires c κs = let p = c .before .before .before .before .before .before .before .pre in (omega (arith, p .0 .place, p .0 .placed .counted .total, p .0 .placed .inside), p .1)
 
 triangulate-requires : tie.Need-triangulate-requires
 triangulate-requires c κs =
     let a = c .before .before .before .before .before .before .before .before .before .before .before .before .before .before .before .before .before .before .before .before .args in
     let placed = c .before .before .before .before .before .before .before .before .before .before .before .before .before .before .before .before .before .before .before .before .pre .0 .placed in
     let e = c .before .before .before .before .before .before .before .read-counts .ensures in
-    (rw e (placed .corners), rw (e, counts-length (a .s .now) (a .o .holes) (a .o .i + 4)) (placed .few))
+    (rw e (rw (placed .counted .total) at (placed .counted .most)), rw (e, counts-length (a .s .now) (a .o .holes) (a .o .i + 4)) (placed .counted .few))
 
 returns : tie.Need-returns
 returns c =
@@ -26,6 +26,6 @@ returns c =
 pub cut-spec : {M : Type 1} → statement M
 cut-spec =
     tie.close
-    (tie.spec (λ c. omega (arith, c .before .before .before .before .before .pre .0 .all, c .before .before .before .before .before .pre .0 .placed .corners)) (λ c. omega (arith, c .before .before .before .before .before .before .pre .0 .place, c .before .before .before .before .before .before .pre .0 .placed .inside)) lay-flat-requires (λ c. omega (arith, c .before .before .before .before .before .before .before .before .before .before .before .pre .0 .placed .inside)) (λ c. refl)
-    (λ c κs. (omega (arith, c .before .before .before .before .before .before .before .before .before .before .before .before .pre .0 .placed .inside, c .before .before .before .before .before .before .before .before .before .before .before .before .pre .0 .placed .few), omega (arith, c .before .before .before .before .before .before .before .before .before .before .before .before .pre .0 .placed .few))) (λ c. sym (length-take-le _ _ (omega (arith, c .before .before .before .before .before .before .before .before .before .before .before .before .before .before .before .before .pre .1, c .before .before .before .before .before .before .before .room .given)))) (λ c. omega (arith, c .before .before .before .before .before .before .before .before .before .before .before .before .before .before .before .before .pre .0 .all, c .before .before .before .before .before .before .before .before .before .before .before .before .before .before .before .before .pre .0 .placed .corners)) (λ c. omega (arith, c .before .before .before .before .before .before .before .before .before .before .before .before .before .before .before .before .pre .1, c .before .before .before .before .before .before .before .room .given)) (λ c. omega (arith, c .before .before .before .before .before .before .before .before .before .before .before .before .before .before .before .before .pre .1, c .before .before .before .before .before .before .before .room .given)) (λ c. omega (arith, c .before .before .before .before .before .before .before .before .before .before .before .before .before .before .before .before .pre .1, c .before .before .before .before .before .before .before .room .given))
-    (λ c. omega (arith, c .before .before .before .before .before .before .before .before .before .before .before .before .before .before .before .before .before .pre .0 .placed .few, c .before .before .before .counts2 .given)) (λ c. sym (length-take-le _ _ (omega (arith, c .before .before .before .before .before .before .before .before .before .before .before .before .before .before .before .before .before .before .pre .0 .placed .few, c .before .before .before .before .counts2 .given)))) triangulate-requires (λ c. c .before .before .before .before .before .before .before .before .before .before .before .before .before .before .before .before .room .given) (λ c. c .before .before .before .log .given) (λ c. c .before .triangles .given) returns)
+    (tie.spec (λ c. omega (arith, c .before .before .before .before .before .pre .0 .placed .counted .total, c .before .before .before .before .before .pre .0 .placed .counted .most)) (λ c. omega (arith, c .before .before .before .before .before .before .pre .0 .place, c .before .before .before .before .before .before .pre .0 .placed .inside)) lay-flat-requires (λ c. omega (arith, c .before .before .before .before .before .before .before .before .before .before .before .pre .0 .placed .inside)) (λ c. refl)
+    (λ c κs. (omega (arith, c .before .before .before .before .before .before .before .before .before .before .before .before .pre .0 .placed .inside, c .before .before .before .before .before .before .before .before .before .before .before .before .pre .0 .placed .counted .few), omega (arith, c .before .before .before .before .before .before .before .before .before .before .before .before .pre .0 .placed .counted .few))) (λ c. sym (length-take-le _ _ (omega (arith, c .before .before .before .before .before .before .before .before .before .before .before .before .before .before .before .before .pre .1, c .before .before .before .before .before .before .before .room .given)))) (λ c. omega (arith, c .before .before .before .before .before .before .before .before .before .before .before .before .before .before .before .before .pre .0 .placed .counted .total, c .before .before .before .before .before .before .before .before .before .before .before .before .before .before .before .before .pre .0 .placed .counted .most)) (λ c. omega (arith, c .before .before .before .before .before .before .before .before .before .before .before .before .before .before .before .before .pre .1, c .before .before .before .before .before .before .before .room .given)) (λ c. omega (arith, c .before .before .before .before .before .before .before .before .before .before .before .before .before .before .before .before .pre .1, c .before .before .before .before .before .before .before .room .given)) (λ c. omega (arith, c .before .before .before .before .before .before .before .before .before .before .before .before .before .before .before .before .pre .1, c .before .before .before .before .before .before .before .room .given))
+    (λ c. omega (arith, c .before .before .before .before .before .before .before .before .before .before .before .before .before .before .before .before .before .pre .0 .placed .counted .few, c .before .before .before .counts2 .given)) (λ c. sym (length-take-le _ _ (omega (arith, c .before .before .before .before .before .before .before .before .before .before .before .before .before .before .before .before .before .before .pre .0 .placed .counted .few, c .before .before .before .before .counts2 .given)))) triangulate-requires (λ c. c .before .before .before .before .before .before .before .before .before .before .before .before .before .before .before .before .room .given) (λ c. c .before .before .before .log .given) (λ c. c .before .triangles .given) returns)

@@ -2,9 +2,10 @@
 use mathlib.Core.Path.{_∙_}
 use Prim.Native.Nat.{_+_, _-_}
 use native.Mathlib.Omega.{arith}
+use Rattle.lists.specs.Loops.{sumOf}
+use Rattle.fields.specs.Fields.{countsAt}
 use Rattle.face.proofs.Draws.{then, room-less}
 use Rattle.walls.proofs.WallLaws.{start-room, outer-room}
-use Rattle.corners.specs.Outlines.{holeCorners}
 use Rattle.outlines.proofs.OutlineLaws.{few-edges, outer-drew}
 use Rattle.outlines.proofs.all_walls.Statement.{statement}
 use Rattle.outlines.proofs.all_walls.Tie as tie
@@ -15,7 +16,7 @@ walls-requires c κs =
     let a = z .args in
     let m = z .pre .0 in
     let few = few-edges (a .closed) (a .o .outer) _ (c .before .before .before .before .edges .ensures) in
-    (omega (arith, m .place, m .placed .inside), few, room-less (start-room (a .before) (a .o .outer) (z .pre .1) (omega (arith, m .placed .corners))) (omega (arith, few)) (omega (arith, few)))
+    (omega (arith, m .place, m .placed .inside, m .placed .counted .total), few, room-less (start-room (a .before) (a .o .outer) (z .pre .1) (omega (arith, m .placed .counted .total, m .placed .counted .most))) (omega (arith, few)) (omega (arith, few)))
 
 hole-walls-requires : tie.Need-hole-walls-requires
 hole-walls-requires c κs =
@@ -24,9 +25,10 @@ hole-walls-requires c κs =
     let s = a .s .now in
     let o = a .o in
     let m = z .pre .0 in
-    let inner = holeCorners s (o .i) (o .holes) in
+    let total = m .placed .counted .total in
+    let inner = sumOf (λ k. k) (countsAt s (o .holes) (o .i + 4)) in
     let drew = outer-drew (a .closed) s (o .outer) (o .at) (o .lid) (c .before .before .before .before .before .before .before .before .before .before .before .before .before .before .before .before .square-to .ensures) (c .before .before .before .before .before .before .before .before .before .before .before .before .before .before .before .edges .ensures) (c .before .before .before .before .before .before .before .before .before .before .walls .ensures) in
-    ((omega (arith, m .place), omega (arith, m .place, m .placed .inside)), outer-room s (o .outer) (o .at) (a .closed) (o .lid) (o .outer + inner) inner (start-room (a .before) _ (z .pre .1) (m .placed .corners)) drew (omega arith))
+    ((omega (arith, m .place), omega (arith, m .place, m .placed .inside)), outer-room s (o .outer) (o .at) (a .closed) (o .lid) (o .n) inner (start-room (a .before) _ (z .pre .1) (m .placed .counted .most)) drew (omega arith))
 
 returns : tie.Need-returns
 returns c =
@@ -37,5 +39,5 @@ returns c =
 pub all-walls-spec : {M : Type 1} → statement M
 all-walls-spec =
     tie.close
-    (tie.spec (λ c. omega (arith, c .before .before .before .before .before .pre .0 .placed .corners)) (λ c κs. omega (arith, c .before .before .before .before .before .pre .0 .place, c .before .before .before .before .before .pre .0 .placed .inside)) (λ c κs. tt) (λ c. omega (arith, c .before .before .before .before .before .before .before .pre .0 .placed .corners)) (λ c. omega (arith, c .before .before .before .before .before .before .before .before .pre .0 .place, c .before .before .before .before .before .before .before .before .pre .0 .placed .inside)) walls-requires
+    (tie.spec (λ c. omega (arith, c .before .before .before .before .before .pre .0 .placed .counted .most, c .before .before .before .before .before .pre .0 .placed .counted .total)) (λ c κs. omega (arith, c .before .before .before .before .before .pre .0 .place, c .before .before .before .before .before .pre .0 .placed .inside, c .before .before .before .before .before .pre .0 .placed .counted .total)) (λ c κs. tt) (λ c. omega (arith, c .before .before .before .before .before .before .before .pre .0 .placed .counted .most, c .before .before .before .before .before .before .before .pre .0 .placed .counted .total)) (λ c. omega (arith, c .before .before .before .before .before .before .before .before .pre .0 .place, c .before .before .before .before .before .before .before .before .pre .0 .placed .inside, c .before .before .before .before .before .before .before .before .pre .0 .placed .counted .total)) walls-requires
     (λ c. omega (arith, c .before .before .before .before .before .before .before .before .before .before .before .before .before .before .before .before .before .before .before .pre .0 .place)) hole-walls-requires (λ c. c .before .before .before .before .before .vs2 .given ∙ c .before .before .before .before .before .before .before .before .before .before .before .before .before .before .before .before .vs .given) (λ c. c .before .before .before .ns2 .given ∙ c .before .before .before .before .before .before .before .before .before .before .before .before .before .before .ns .given) (λ c. c .before .is2 .given ∙ c .before .before .before .before .before .before .before .before .before .before .before .before .is .given) returns)

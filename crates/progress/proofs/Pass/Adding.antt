@@ -2,7 +2,7 @@
 use mathlib.Core.Path.{_≡_, refl, sym, ap, ap₂, _∙_, subst}
 use mathlib.Core.Bool.{Bool, true, false, cond}
 use mathlib.Core.List.{List, [], _∷_}
-use Prim.Native.Nat.{ℕ, zero, suc, _+_, _*_}
+use Prim.Native.Nat.{ℕ, zero, suc, _+_, _*_, _<_}
 use native.Mathlib.Nat.{add-zero, zero-add}
 use native.Mathlib.Omega.{arith}
 use lib.Dec.{eqb}
@@ -84,6 +84,10 @@ module _ {limit : Float} {s : List ℕ} {p : Progress} (a : CanAdd limit s p) wh
   -- what the next object counts to
   next-fits : Fits (withObject limit (objectOf s (p .at) (headerAt s (p .at))) (passOf p (lent [] [] [] [] [] [])))
   next-fits = a .fits (lent [] [] [] [] [] [])
+
+  pub record-inside : p .at < length s
+  unfolding headerAt
+  record-inside = omega (arith, a .inside)
 
   can-draw-next : CanDraw s (p .at + 5) (headerAt s (p .at) .body) (p .vertices)
   unfolding headerAt withObject

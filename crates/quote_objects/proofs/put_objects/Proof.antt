@@ -2,7 +2,7 @@
 use Prim.Native.Nat.{_-_}
 use native.Mathlib.Omega.{arith}
 use borrow.Author.Needs.{needs}
-use Rattle.quote_objects.proofs.Lines.{Lines, lines-start, four-more, next-fits, lines-next, lines-end}
+use Rattle.quote_objects.proofs.Lines.{Lines, lines-start, record-inside, four-more, next-fits, lines-next, lines-end}
 use Rattle.quote_objects.proofs.put_objects.Statement.{statement}
 use Rattle.quote_objects.proofs.put_objects.Tie as tie
 
@@ -59,4 +59,4 @@ returns c = lines-end (c .before .loop .inv) (c .loop-test .left)
 pub put-objects-spec : {M : Type 1} → statement M
 put-objects-spec =
     tie.close
-    (tie.spec Inv-loop μ-loop loop-holds (λ c κs. tt) mul-i mul-put-object shared-slice-read-put-object add-put-object mul-put-object-2 shared-slice-read-put-object-2 add-put-object-2 mul-put-object-3 shared-slice-read-put-object-3 put-object-requires add-at (λ c. omega arith) (λ c. omega arith) loop-again (λ c. c .before .loop .inv .writing .long) returns)
+    (tie.spec Inv-loop μ-loop loop-holds (λ c κs. record-inside (c .before .loop .inv) (c .loop-test .taken)) mul-i mul-put-object shared-slice-read-put-object add-put-object mul-put-object-2 shared-slice-read-put-object-2 add-put-object-2 mul-put-object-3 shared-slice-read-put-object-3 put-object-requires add-at (λ c. omega arith) (λ c. omega arith) loop-again (λ c. c .before .loop .inv .writing .long) returns)

@@ -1,13 +1,13 @@
 -- `records::check_kind` meets its contract. Assumes nothing.
 use mathlib.Core.Bool.{true, false}
 use mathlib.Core.Path.{sym, ap, _∙_}
-use Prim.Native.Nat.{_+_}
 use borrow.Author.Needs.{needs}
 use Rattle.object.specs.Object.{sweep, roundSweep}
-use Rattle.object.specs.declared.Extent.the-variants.{Box, Cylinder, Unsized}
+use Rattle.object.specs.declared.Extent.the-variants.{Unsized}
 use Rattle.scene.proofs.RecordLaws.{kind-other}
 use Rattle.scene.specs.Answers.{endOf}
-use Rattle.fields.specs.Fields.{f32At}
+use Rattle.fields.specs.Layout.{sizesFrom}
+use Rattle.fields.specs.Fields.{boxAt, cylinderAt}
 use Rattle.scene.specs.Scene.{kindAt}
 use Rattle.records.proofs.check_kind.Statement.{statement}
 use Rattle.records.proofs.check_kind.Tie as tie
@@ -43,13 +43,13 @@ returns-2 : tie.Need-returns-2
 unfolding kindAt
 returns-2 c =
     let a = c .before .before .before .args in
-    λ id. c .check-solid2 .ensures id (Box (f32At (a .s .now) (a .i + 60)) (f32At (a .s .now) (a .i + 64)) (f32At (a .s .now) (a .i + 68))) ∙ ap (λ k. endOf (kindAt (a .s .now) (a .e) id (a .i) k)) (sym (c .before .match .keys2))
+    λ id. c .check-solid2 .ensures id (boxAt (a .s .now) (sizesFrom (a .i))) ∙ ap (λ k. endOf (kindAt (a .s .now) (a .e) id (a .i) k)) (sym (c .before .match .keys2))
 
 returns-3 : tie.Need-returns-3
 unfolding kindAt
 returns-3 c =
     let a = c .before .before .before .args in
-    λ id. c .check-solid3 .ensures id (Cylinder (f32At (a .s .now) (a .i + 60)) (f32At (a .s .now) (a .i + 64))) ∙ ap (λ k. endOf (kindAt (a .s .now) (a .e) id (a .i) k)) (sym (c .before .match .keys3))
+    λ id. c .check-solid3 .ensures id (cylinderAt (a .s .now) (sizesFrom (a .i))) ∙ ap (λ k. endOf (kindAt (a .s .now) (a .e) id (a .i) k)) (sym (c .before .match .keys3))
 
 returns-4 : tie.Need-returns-4
 unfolding kindAt

@@ -1,9 +1,9 @@
 -- `records::check_solid` meets its contract. Assumes nothing.
 use mathlib.Core.Path.{_≡_, sym, ap, _∙_}
 use mathlib.Core.Bool.{_&&_}
-use Prim.Native.Nat.{_+_}
 use borrow.Author.Needs.{needs}
 use borrow.Author.Tests.{not-true, not-false}
+use Rattle.fields.specs.Layout.{orientationFrom, sizesFrom}
 use Rattle.fields.specs.Fields.{all32, all64}
 use Rattle.scene.proofs.RecordLaws.{solid-past}
 use Rattle.scene.specs.Answers.{endOf}
@@ -19,7 +19,7 @@ returns c =
 -- the three tests are the definition's
 tested : (c : tie.After-all-allowed322) →
     let a = c .before .before .before .before .before .args in
-    all32 (a .s .now) 3 (a .i) && all64 (a .s .now) 6 (a .i + 12) && all32 (a .s .now) (a .w) (a .i + 60) ≡ c .before .before .all-allowed32 .result && c .before .orientation-allowed .result && c .all-allowed322 .result
+    all32 (a .s .now) 3 (a .i) && all64 (a .s .now) 6 (orientationFrom (a .i)) && all32 (a .s .now) (a .w) (sizesFrom (a .i)) ≡ c .before .before .all-allowed32 .result && c .before .orientation-allowed .result && c .all-allowed322 .result
 tested c = rw (c .before .before .all-allowed32 .ensures, c .before .orientation-allowed .ensures, c .all-allowed322 .ensures)
 
 returns-2 : tie.Need-returns-2
@@ -35,4 +35,4 @@ returns-3 c =
 pub check-solid-spec : {M : Type 1} → statement M
 check-solid-spec =
     tie.close
-    (tie.spec (λ c. search needs) (λ c. search needs) (λ c. search needs) returns (λ c κs. search needs) (λ c. search needs) (λ c κs. search needs) (λ c. search needs) (λ c κs. search needs) returns-2 (λ c. search needs) returns-3)
+    (tie.spec (λ c. search needs) (λ c. search needs) (λ c. search needs) (λ c. search needs) returns (λ c κs. search needs) (λ c. search needs) (λ c κs. search needs) (λ c. search needs) (λ c κs. search needs) returns-2 (λ c. search needs) returns-3)

@@ -1,6 +1,5 @@
 -- `scene_most::bound_at` meets its contract. Assumes nothing.
 use mathlib.Core.Path.{refl}
-use native.Mathlib.Omega.{arith}
 use borrow.Author.Tests.{not-true, not-false}
 use Rattle.most.specs.Most.{partOf}
 use Rattle.scene_most.proofs.bound_at.Statement.{statement}
@@ -15,7 +14,7 @@ unfolding partOf
 returns-2 c = let c₁ = c .before .before in rw (← c₁ .before .in-part .ensures _ _, not-false (c₁ .before .in-part .result) (c₁ .if1 .left), c .before .if2 .taken) (c .exact-at .ensures)
 
 most-at-requires : tie.Need-most-at-requires
-most-at-requires c κs = let p = c .before .before .before .before .pre in (p .limits, omega (arith, p .inside, p .short))
+most-at-requires c κs = c .before .before .before .before .pre .limits
 
 returns-3 : tie.Need-returns-3
 unfolding partOf

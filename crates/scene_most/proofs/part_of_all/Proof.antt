@@ -1,8 +1,7 @@
 -- `scene_most::part_of_all` meets its contract. Assumes nothing.
 use Prim.Native.Nat.{_-_}
 use native.Mathlib.Omega.{arith}
-use borrow.Author.Needs.{needs}
-use Rattle.scene_most.proofs.Sums.{Sums, sums-start, can-read, place-fits, can-sum, sums-next, sums-end}
+use Rattle.scene_most.proofs.Sums.{Sums, sums-start, record-inside, can-read, place-fits, can-sum, sums-next, sums-end}
 use Rattle.scene_most.proofs.part_of_all.Statement.{statement}
 use Rattle.scene_most.proofs.part_of_all.Tie as tie
 
@@ -14,6 +13,9 @@ abbrev μ-loop : tie.MeasureT-loop
 
 loop-holds : tie.Need-loop-holds Inv-loop μ-loop
 loop-holds c = sums-start _ _ _ _ _ (c .before .pre)
+
+header-at-requires : tie.Need-header-at-requires Inv-loop μ-loop
+header-at-requires c κs = record-inside (c .before .loop .inv) (c .loop-test .taken)
 
 add-bound-at : tie.Need-add-bound-at Inv-loop μ-loop
 add-bound-at c = let q = can-read (c .before .before .loop .inv) (c .before .loop-test .taken) (c .header-at .ensures) in omega (arith, q .inside, q .short)
@@ -36,5 +38,5 @@ returns c = sums-end (c .before .loop .inv) (c .loop-test .left)
 pub part-of-all-spec : {M : Type 1} → statement M
 part-of-all-spec =
     tie.close
-    (tie.spec Inv-loop μ-loop loop-holds (λ c κs. search needs) add-bound-at bound-at-requires add-requires add-at (λ c. omega arith) (λ c. omega arith)
+    (tie.spec Inv-loop μ-loop loop-holds header-at-requires add-bound-at bound-at-requires add-requires add-at (λ c. omega arith) (λ c. omega arith)
     loop-again returns)

@@ -2,7 +2,7 @@
 use native.Mathlib.Omega.{arith}
 use native.Mathlib.Nat.{le-refl}
 use borrow.Author.Needs.{needs}
-use Rattle.progress.proofs.Pass.Adding.{drawn-is, drew-behind, can-draw, can-advance, added-object}
+use Rattle.progress.proofs.Pass.Adding.{record-inside, drawn-is, drew-behind, can-draw, can-advance, added-object}
 use Rattle.build.proofs.pass.object_at.Statement.{statement}
 use Rattle.build.proofs.pass.object_at.Tie as tie
 
@@ -36,7 +36,7 @@ returns c =
 pub object-at-spec : {M : Type 1} → statement M
 object-at-spec =
     tie.close
-    (tie.spec (λ c κs. tt) (λ c κs. tt) (λ c. search needs)
+    (tie.spec (λ c κs. record-inside (c .before .before .before .before .before .before .before .pre)) (λ c κs. tt) (λ c. search needs)
     (λ c. record { fits = omega arith }) (λ c. c .before .starts-in .ensures .vertices .1) (λ c. c .before .starts-in .ensures .vertices .1) (λ c. le-refl _)
     (λ c. record { fits = omega arith }) (λ c. c .before .before .starts-in .ensures .normals .1) (λ c. c .before .before .starts-in .ensures .normals .1) (λ c. le-refl _)
     (λ c. record { fits = omega (arith, c .before .before .before .before .before .before .before .before .before .before .before .before .good .1 .1 .1 .1 .1 .0) }) (λ c. c .before .before .before .starts-in .ensures .indices .1) (λ c. c .before .before .before .starts-in .ensures .indices .1) (λ c. le-refl _)
