@@ -1,9 +1,7 @@
 // An end of a prism: a ring of sixteen points as one face.
 ghost use mathlib.Core.Path.{_≡_};
-ghost use mathlib.Core.List.{[], _∷_};
-ghost use Prim.Native.Nat.{ℕ};
 ghost use Rattle.coords.specs.Buffers.{vertexNumbers};
-ghost use Rattle.face.specs.Drawing.{Room, Draws};
+ghost use Rattle.face.specs.Drawing.{Room, DrawsFace};
 ghost use Rattle.shapes.specs.Shapes.{endFace};
 use coords::Point;
 use face::Tally;
@@ -85,7 +83,7 @@ pub fn end(
     is: &mut [u32],
 ) -> Tally
     requires { ⌜ Room before t 16 14 ⌝ }
-    ensures { λ r. ⌜ ((part : ℕ) → Draws limit (endFace ring out part ∷ []) before t r vs ns is) ⌝ }
+    ensures { λ r. ⌜ DrawsFace limit (endFace ring out) before t r vs ns is ⌝ }
 {
     let numbers = numbers_of(ring);
     let fan = FAN;

@@ -1,7 +1,7 @@
 -- What drawing faces leaves in the lent buffers and counts: the one form of contract for all that draws. Definitions only.
 use mathlib.Core.Path.{_≡_}
 use Prim.Native.Nat.{ℕ, _+_, _*_, _<_, _^_}
-use mathlib.Core.List.{List}
+use mathlib.Core.List.{List, [], _∷_}
 use lib.ListN.{length}
 use lib.Seq.{sets}
 use denote.Ref.{now}
@@ -54,6 +54,10 @@ atExit r vs ns is = drawing r (now (vs .exit)) (now (ns .exit)) (now (is .exit))
 
 abbrev pub Draws : Float → List Face → ℕ → Tally → Tally → Slice Float → Slice Float → Slice ℕ → Type 0
 Draws limit faces before t r vs ns is = Drew limit faces before (atEntry t vs ns is) (atExit r vs ns is)
+
+-- one face, whatever its part is
+abbrev pub DrawsFace : Float → (ℕ → Face) → ℕ → Tally → Tally → Slice Float → Slice Float → Slice ℕ → Type 0
+DrawsFace limit face before t r vs ns is = (part : ℕ) → Draws limit (face part ∷ []) before t r vs ns is
 
 -- v vertices and k triangles more stay below 2 ^ 32
 pub record Room (before : ℕ) (t : Tally) (v k : ℕ) : Type 0 where

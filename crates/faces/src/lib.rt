@@ -1,13 +1,12 @@
 // One flat face, `face` of object_mesh.rs, drawn into lent buffers behind what stands there.
 ghost use mathlib.Core.Path.{_≡_};
-ghost use mathlib.Core.List.{[], _∷_};
-ghost use Prim.Native.Nat.{ℕ, _+_, _<_, _/_, _^_};
+ghost use Prim.Native.Nat.{_+_, _<_, _/_, _^_};
 ghost use lib.Dec.{eqb};
 ghost use lib.ListN.{length};
 ghost use Rattle.coords.specs.Buffers.{verticesIn};
 ghost use Rattle.offering.specs.Offered.{TrianglesAmong};
 ghost use Rattle.face.specs.Faces.{quad};
-ghost use Rattle.face.specs.Drawing.{faceIn, Room, Draws};
+ghost use Rattle.face.specs.Drawing.{faceIn, Room, DrawsFace};
 ghost use Rattle.faces.specs.Sums.{countedWith, StoresKept};
 use coords::Point;
 use face::Tally;
@@ -63,7 +62,7 @@ pub fn face(
     is: &mut [u32],
 ) -> Tally
     requires { ⌜ Room before t (length (now points) / 3) (length (now triangles) / 3) × TrianglesAmong (now points) (now triangles) ⌝ }
-    ensures { λ r. ⌜ ((part : ℕ) → Draws limit (faceIn part (now (points .entry)) (now (triangles .entry)) out ∷ []) before t r vs ns is) ⌝ }
+    ensures { λ r. ⌜ DrawsFace limit (λ part. faceIn part (now (points .entry)) (now (triangles .entry)) out) before t r vs ns is ⌝ }
 {
     let base = before + t.vertices;
     let s = offer_all(points, triangles, out, limit, base, t.kept, is);
@@ -87,7 +86,7 @@ pub fn quad(
     is: &mut [u32],
 ) -> Tally
     requires { ⌜ Room before t 4 2 ⌝ }
-    ensures { λ r. ⌜ ((part : ℕ) → Draws limit (quad part a b c d out ∷ []) before t r vs ns is) ⌝ }
+    ensures { λ r. ⌜ DrawsFace limit (λ part. quad part a b c d out) before t r vs ns is ⌝ }
 {
     if (vs.len() == 0) & (ns.len() == 0) & (is.len() == 0) {
         let thin = thin_in_quad(a, b, c, d, limit);

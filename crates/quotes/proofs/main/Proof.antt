@@ -4,14 +4,8 @@ use borrow.Author.Needs.{needs}
 use Rattle.quotes.proofs.main.Statement.{statement}
 use Rattle.quotes.proofs.main.Tie as tie
 
-abbrev Inv-loop : tie.InvT-loop
-Inv-loop fd turn₀ turn = turn ≤ 100000
-
-abbrev μ-loop : tie.MeasureT-loop
-μ-loop fd turn₀ turn = 100000 - turn
-
 pub main-spec : {M : Type 1} → statement M
 main-spec =
     tie.close
-    (tie.spec Inv-loop μ-loop (λ c. search needs) (λ c κs. search needs) (λ c. search needs) (λ c κs. search needs) (λ c. search needs)
-    (λ c. search needs) (λ c. search needs) (λ c. search needs) (λ c. search needs))
+    (tie.spec (λ fd turn₀ turn. turn ≤ 100000) (λ fd turn₀ turn. 100000 - turn) (λ c. search needs) (λ c κs. search needs) (λ c. search needs)
+    (λ c κs. search needs) (λ c. search needs) (λ c. search needs) (λ c. search needs) (λ c. search needs) (λ c. search needs))
