@@ -94,24 +94,9 @@ pub fn draw(
         Body::Outline {
             closed,
             outer,
-            holes,
-            corners,
-        } => {
-            outline(
-                s,
-                i,
-                closed,
-                outer,
-                holes,
-                corners,
-                limit,
-                before,
-                vs,
-                ns,
-                is,
-                log,
-            )
-        }
+            holes: h,
+            corners: n,
+        } => { outline(s, i, closed, outer, h, n, limit, before, vs, ns, is, log) }
         Body::Sweep { round, sections } => {
             let n = sections as usize;
             draw_sections(s, i + 2, round, n, limit, before, vs, ns, is)
