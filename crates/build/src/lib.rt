@@ -4,6 +4,7 @@ pub mod pass;
 
 ghost use mathlib.Core.Path.{_≡_};
 ghost use Prim.Native.Nat.{_≤_};
+ghost use Rattle.fields.specs.Layout.{mostBytes, mostObjects};
 ghost use Rattle.scene.specs.declared.scenes.Checked.the-variants.{Accepted};
 ghost use Rattle.scene.specs.Scene.{scene};
 ghost use Rattle.scene.specs.Answers.{checkedOf};
@@ -31,7 +32,7 @@ pub enum Plan {
 
 // By what both parts of n objects come to.
 fn plan_parts(has: Lengths, others: Most, lids: Most, n: u32) -> Plan
-    requires { ⌜ Few others 16777216 65536 × Few lids 16777216 65536 × (n ≤ 65536) ⌝ }
+    requires { ⌜ Few others mostBytes mostObjects × Few lids mostBytes mostObjects × (n ≤ mostObjects) ⌝ }
     ensures { λ r. ⌜ PlanBy (lengthsFrom has) (numbersOf (together others lids) n) n r ⌝ }
 {
     match room(has, bound_counts(others, lids, n)) {

@@ -2,6 +2,7 @@
 ghost use mathlib.Core.Path.{_≡_};
 ghost use Prim.Native.Nat.{_+_, _*_, _≤_, _<_, _^_};
 ghost use lib.ListN.{length};
+ghost use Rattle.fields.specs.Layout.{mostSections, sectionBytes};
 ghost use Rattle.scene.specs.Headers.{sectionsShape, shapeOf};
 ghost use Rattle.shapes.specs.Drawn.{CanDraw, DrawsObject, DrawsUnlogged};
 ghost use Rattle.shapes.specs.Stages.{firstOf};
@@ -30,7 +31,7 @@ fn draw_sections(
     ns: &mut [f32],
     is: &mut [u32],
 ) -> Drawn
-    requires { ⌜ (at + 48 * n ≤ length (now s)) × (n ≤ 4096) × (3 * before < 2 ^ 32) ⌝ }
+    requires { ⌜ (at + sectionBytes * n ≤ length (now s)) × (n ≤ mostSections) × (3 * before < 2 ^ 32) ⌝ }
     ensures { λ r. ⌜ DrawsUnlogged limit (sectionsShape (now (s .entry)) at round n) before r vs ns is ⌝ }
 {
     if round {

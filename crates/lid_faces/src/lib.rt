@@ -7,6 +7,7 @@ ghost use lib.ListN.{length};
 ghost use lib.Seq.{sets};
 ghost use Rattle.lists.specs.Each.{Each};
 ghost use Rattle.coords.specs.Buffers.{vertexNumbers};
+ghost use Rattle.fields.specs.Layout.{mostCorners};
 ghost use Rattle.face.specs.Faces.{TriangleLow};
 ghost use Rattle.triangles.specs.Triangles.{trianglesIn};
 ghost use Rattle.face.specs.Drawing.{Room};
@@ -88,7 +89,7 @@ fn lid_faces(
 
 // The price of a closed outline of n corners, whose lid has some triangles.
 fn closed_price(n: u32, high: bool, triangles: u32) -> u32
-    requires { ⌜ (n ≤ 512) × (triangles ≤ 612) ⌝ }
+    requires { ⌜ (n ≤ mostCorners) × (triangles ≤ 612) ⌝ }
     ensures { λ r. ⌜ r ≡ 2 * n + triangles + cond high triangles 0 ⌝ }
 {
     if high {

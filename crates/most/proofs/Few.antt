@@ -3,6 +3,7 @@ use Prim.Native.Nat.{ℕ, _+_, _≤_}
 use native.Mathlib.Nat.{le-trans}
 use native.Mathlib.Omega.{arith}
 use Rattle.most.specs.declared.Most.{Most}
+use Rattle.fields.specs.Layout.{mostBytes, mostObjects}
 use Rattle.scene_mesh.specs.PerBuffer.{FitCounts}
 use Rattle.most.specs.Most.{together, numbersOf, Few}
 use Rattle.most.proofs.Bounds.{AtMost}
@@ -30,7 +31,7 @@ few-together f g =
     }
 
 -- what both parts of n objects take in each buffer fits u32
-pub few-fit : {a b : Most} {n : ℕ} → Few a 16777216 65536 → Few b 16777216 65536 → n ≤ 65536 → FitCounts (numbersOf (together a b) n)
+pub few-fit : {a b : Most} {n : ℕ} → Few a mostBytes mostObjects → Few b mostBytes mostObjects → n ≤ mostObjects → FitCounts (numbersOf (together a b) n)
 few-fit p q h =
     let v = p .vertices in
     let w = q .vertices in

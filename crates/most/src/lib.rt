@@ -4,6 +4,7 @@ ghost use mathlib.Core.Bool.{cond};
 ghost use Prim.Native.Nat.{_+_, _-_, _≤_};
 ghost use lib.Ieee.{lt};
 ghost use Rattle.float.specs.Number.{zerof};
+ghost use Rattle.fields.specs.Layout.{mostHoles, mostCorners, mostSections};
 ghost use Rattle.most.specs.Most.{ofShape, solidMost, outlineMost, sweepMost, together, Few};
 use object::Extent;
 
@@ -66,7 +67,7 @@ pub fn solid_most(extent: Extent) -> Most
 
 // Of outer corners, those of the holes, and holes.
 pub fn outline_most(closed: bool, outer: u32, inner: u32, holes: u32) -> Most
-    requires { ⌜ (outer + inner ≤ 512) × (holes ≤ 32) ⌝ }
+    requires { ⌜ (outer + inner ≤ mostCorners) × (holes ≤ mostHoles) ⌝ }
     ensures { λ r. ⌜ r ≡ outlineMost closed outer inner holes ⌝ }
 {
     if closed {
@@ -79,7 +80,7 @@ pub fn outline_most(closed: bool, outer: u32, inner: u32, holes: u32) -> Most
 }
 
 pub fn sweep_most(round: bool, sections: u32) -> Most
-    requires { ⌜ sections ≤ 4096 ⌝ }
+    requires { ⌜ sections ≤ mostSections ⌝ }
     ensures { λ r. ⌜ r ≡ sweepMost round sections ⌝ }
 {
     if round {

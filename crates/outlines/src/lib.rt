@@ -3,6 +3,7 @@ ghost use mathlib.Core.Path.{_≡_};
 ghost use mathlib.Core.Bool.{cond};
 ghost use Prim.Native.Nat.{_+_, _-_, _*_, _≤_, _<_, _^_};
 ghost use Rattle.vectors.specs.Vectors.{zeroV};
+ghost use Rattle.fields.specs.Layout.{mostCorners};
 ghost use Rattle.fields.specs.Fields.{cornersAt};
 ghost use Rattle.face.specs.Drawing.{tally, Draws};
 ghost use Rattle.flattening.specs.Plane.{about};
@@ -86,7 +87,7 @@ fn all_walls(
 
 // The price of an open outline of n corners.
 fn open_price(outer: u32, n: u32) -> u32
-    requires { ⌜ (outer ≤ n) × (n ≤ 512) ⌝ }
+    requires { ⌜ (outer ≤ n) × (n ≤ mostCorners) ⌝ }
     ensures { λ r. ⌜ r ≡ 2 * (outer - 1) + 2 * (n - outer) ⌝ }
 {
     if outer == 0 {

@@ -2,6 +2,7 @@
 ghost use mathlib.Core.Path.{_≡_};
 ghost use Prim.Native.Nat.{_≤_};
 ghost use lib.Dec.{ltb};
+ghost use Rattle.fields.specs.Layout.{mostBytes, mostObjects};
 ghost use Rattle.scene_mesh.specs.Operations.{tooShort};
 ghost use Rattle.answers.specs.Answers.{countsFrom, lengthsFrom};
 ghost use Rattle.most.specs.Most.{together, numbersOf, Few};
@@ -15,7 +16,7 @@ use scene_mesh::Room;
 
 // The numbers that n objects take in each buffer, by what the two parts of them come to.
 pub fn bound_counts(others: Most, lids: Most, n: u32) -> Counted
-    requires { ⌜ Few others 16777216 65536 × Few lids 16777216 65536 × (n ≤ 65536) ⌝ }
+    requires { ⌜ Few others mostBytes mostObjects × Few lids mostBytes mostObjects × (n ≤ mostObjects) ⌝ }
     ensures { λ r. ⌜ countsFrom r ≡ numbersOf (together others lids) n ⌝ }
 {
     let m = add(others, lids);

@@ -5,6 +5,7 @@ ghost use mathlib.Core.Path.{_≡_};
 ghost use mathlib.Core.List.{List};
 ghost use Prim.Native.Nat.{ℕ};
 ghost use Rattle.object.specs.Object.{Object};
+ghost use Rattle.fields.specs.Layout.{mostBytes, mostObjects};
 ghost use Rattle.scene.specs.declared.scenes.Checked.the-variants.{Accepted};
 ghost use Rattle.scene.specs.Scene.{scene, accepted};
 ghost use Rattle.scene.specs.Answers.{checkedOf};
@@ -99,7 +100,7 @@ fn bound_at(s: &[u8], i: usize, body: Body, limit: f32, lids: bool, exact: bool)
 // Those of the n objects that have lids, or the others: measured, or the most.
 pub fn part_of_all(s: &[u8], n: u32, limit: f32, lids: bool, exact: bool) -> Most
     requires { ⌜ Accepted n ≡ checkedOf (scene (now s)) ⌝ }
-    ensures { λ r. ⌜ Few r 16777216 65536 × ((os : List Object) → scene (now (s .entry)) ≡ accepted os → r ≡ partOfAll lids exact limit os) ⌝ }
+    ensures { λ r. ⌜ Few r mostBytes mostObjects × ((os : List Object) → scene (now (s .entry)) ≡ accepted os → r ≡ partOfAll lids exact limit os) ⌝ }
 {
     let mut most = Most {
         vertices: 0,

@@ -6,6 +6,7 @@ ghost use Prim.Native.Nat.{_+_, _*_, _≤_};
 ghost use lib.ListN.{length};
 ghost use Rattle.object.specs.declared.Section.{Section};
 ghost use Rattle.object.specs.Object.{sweep, roundSweep};
+ghost use Rattle.fields.specs.Layout.{mostSections, sectionBytes};
 ghost use Rattle.fields.specs.Fields.{sectionsAt};
 ghost use Rattle.shapes.specs.Price.{pairPrice, offered};
 use geometry::section_at;
@@ -28,7 +29,7 @@ fn pair_price(a: Section, b: Section) -> u32
 
 // Of the sweep of the n sections from place `at` on.
 pub fn sweep_price(s: &[u8], at: usize, n: usize) -> u32
-    requires { ⌜ (n ≤ 4096) × (at + 48 * n ≤ length (now s)) ⌝ }
+    requires { ⌜ (n ≤ mostSections) × (at + sectionBytes * n ≤ length (now s)) ⌝ }
     ensures { λ r. ⌜ r ≡ offered (sweep (sectionsAt (now (s .entry)) n at)) ⌝ }
 {
     if n == 0 {
@@ -48,7 +49,7 @@ pub fn sweep_price(s: &[u8], at: usize, n: usize) -> u32
 
 // Of a round sweep of n sections.
 pub fn round_sweep_price(n: usize) -> u32
-    requires { ⌜ n ≤ 4096 ⌝ }
+    requires { ⌜ n ≤ mostSections ⌝ }
     ensures { λ r. ⌜ ((ss : List Section) → length ss ≡ n → r ≡ offered (roundSweep ss)) ⌝ }
 {
     if n == 0 {
