@@ -23,7 +23,8 @@ use Rattle.scene_mesh.specs.PerBuffer.{Buffers}
 use Rattle.scene_mesh.specs.Operations.{Answer, Built, output, noCounts, refusedWith, countsOf, done, measureScene, measure, tooShort, overlay, buildOutput, buildScene, build}
 use Rattle.answers.specs.Answers.{countsFrom, answerOf, builtWith, BuiltAndJudged, judged, buildAndValidate}
 use Rattle.scene_mesh.specs.Demand3.{LongEnough, measured, Demand3Of}
-use Rattle.scene_mesh.proofs.Demand3.{long-enough, demand3}
+use Rattle.scene_mesh.proofs.Rooms.{long-enough}
+use Rattle.scene_mesh.proofs.Demand3.{demand3}
 
 output-fits : (w b : Buffers) (n : Room)
     → (buildOutput w b n .answer .counts .vertices ≤ length (buildOutput w b n .buffers .vertices)) × (buildOutput w b n .answer .counts .indices ≤ length (buildOutput w b n .buffers .indices))

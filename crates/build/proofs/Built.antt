@@ -1,14 +1,12 @@
 -- What Build plans by the lengths of the lent buffers, and what it answers and leaves. Assumes nothing.
 use mathlib.Core.Path.{_≡_, refl, sym, ap, ap₂, _∙_, subst}
-use mathlib.Core.Bool.{Bool, true, false, _||_, cond}
+use mathlib.Core.Bool.{Bool, true, false}
 use mathlib.Core.List.{List}
 use Prim.Native.Nat.{ℕ, _≤_}
 use native.Mathlib.Nat.{le-trans, lt-of-le-of-lt}
 use native.Mathlib.Omega.{arith}
 use lib.ListN.{length}
-use lib.Dec.{ltb}
 use lib.Ieee.{Float}
-use borrow.Author.Tests.{ltb-false}
 use Rattle.object.specs.Object.{Object}
 use Rattle.rows.specs.declared.Refusal.{Refusal}
 use Rattle.scene.specs.declared.scenes.Checked.the-variants.{Refused as CheckedRefused, Accepted}
@@ -16,20 +14,17 @@ use Rattle.scene.specs.Scene.{accepted, scene}
 use Rattle.scene.specs.Answers.{checkedOf}
 use Rattle.answers.specs.declared.Counted.{Counted}
 use Rattle.answers.specs.declared.Answered.the-variants.{Counts as CountsAre}
-use Rattle.scene_mesh.specs.declared.Room.{Room}
 use Rattle.scene_mesh.specs.declared.Room.the-variants.{Enough, Short}
-use Rattle.scene_mesh.specs.PerBuffer.{Buffer, each, at, Counts, Buffers, FitCounts}
-use Rattle.scene_mesh.specs.PerBuffer.Buffer.{vertices, normals, indices, spans, account, log}
+use Rattle.scene_mesh.specs.PerBuffer.{each, at, Counts, Buffers, FitCounts}
 use Rattle.scene_mesh.specs.Operations.{output, countsOf, done, tooShort, overlay, refusedBuild, buildOutput, buildScene}
 use Rattle.answers.specs.Answers.{countsFrom, builtWith}
 use Rattle.answers.proofs.Calls.{build-refused, build-accepted}
-use Rattle.room.proofs.Rooms.{noVertices, noIndices, noRecords}
 use Rattle.progress.specs.Pass.{beginning, CanAddAll}
 use Rattle.progress.specs.Wrote.{stored, WroteAll}
 use Rattle.progress.proofs.Pass.Objects.{counts-fit}
 use Rattle.progress.proofs.Pass.Tails.{sets-over}
 use Rattle.scene_mesh.specs.Demand3.{LongEnough}
-use Rattle.scene_mesh.proofs.Demand3.{long-enough}
+use Rattle.scene_mesh.proofs.Rooms.{lengths-fit, long-enough, enough-room}
 use Rattle.most.specs.declared.Most.{Most}
 use Rattle.most.specs.Most.{numbersOf, together, Few}
 use Rattle.most.proofs.Bounds.{most-enough}
@@ -38,54 +33,9 @@ use Rattle.build.specs.declared.Plan.{Plan}
 use Rattle.build.specs.declared.Plan.the-variants.{Refuse, Write}
 use Rattle.build.specs.Plan.{PlanBy, PlanHolds}
 
-abbrev isEnough : Room → Bool
-isEnough Enough = true
-isEnough (Short f) = false
-
-no : true ≡ false → ⊥
-no q = let z : _≡_ {A = ℕ} 0 1 = cc in omega arith
-
--- no test was met
-enough : (x : Bool) (f : Refusal) (rest : Room) → Enough ≡ cond x (Short f) rest → (x ≡ false) × (Enough ≡ rest)
-enough true f rest e = absurd (no (ap isEnough e))
-enough false f rest e = (refl, e)
-
-either-false : (a b : Bool) → (a || b) ≡ false → (a ≡ false) × (b ≡ false)
-either-false true b e = absurd (no e)
-either-false false b e = (refl, e)
-
--- what fits is written over each buffer's first part
-lengths-fit : (w b : Buffers) → LongEnough (countsOf b) (countsOf w) → (k : Buffer) → length (at w k) ≤ length (at b k)
-unfolding countsOf
-lengths-fit w b l vertices = l .vertices
-lengths-fit w b l normals = l .normals
-lengths-fit w b l indices = l .indices
-lengths-fit w b l spans = l .spans
-lengths-fit w b l account = l .account
-lengths-fit w b l log = l .log
-
 pub stored-over : (w b : Buffers) → LongEnough (countsOf b) (countsOf w) → stored w b ≡ overlay w b
 unfolding stored overlay
 stored-over w b l = λ i. each (λ k. sets-over (at w k) (at b k) (lengths-fit w b l k) i)
-
--- each buffer has room for what was found to fit
-pub enough-room : (has needs : Counts) → Enough ≡ tooShort has needs → LongEnough has needs
-unfolding tooShort
-enough-room has needs q =
-    let f = enough (noVertices has needs) _ _ q in
-    let g = enough (noIndices has needs) _ _ (f .1) in
-    let h = enough (noRecords has needs) _ _ (g .1) in
-    let v = either-false _ _ (f .0) in
-    let l = either-false (ltb (has .spans) (needs .spans) || ltb (has .account) (needs .account)) _ (h .0) in
-    let m = either-false _ _ (l .0) in
-    record {
-      vertices = ltb-false _ _ (v .0);
-      normals = ltb-false _ _ (v .1);
-      indices = ltb-false _ _ (g .0);
-      spans = ltb-false _ _ (m .0);
-      account = ltb-false _ _ (m .1);
-      log = ltb-false _ _ (l .1);
-    }
 
 pub longer : {a b c : Counts} → LongEnough a b → LongEnough b c → LongEnough a c
 longer p q = each (λ k. le-trans (at q k) (at p k))

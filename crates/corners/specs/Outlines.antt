@@ -12,7 +12,7 @@ use Rattle.coords.specs.Coords.{diff}
 use Rattle.object.specs.declared.Corner.{Corner}
 use Rattle.object.specs.Object.{Shape, outline}
 use Rattle.fields.specs.Fields.{pointAt, countsAt, cornersAt, holesAt}
-use Rattle.scene.specs.Headers.{Counted}
+use Rattle.scene.specs.Headers.{CornersCounted}
 use Rattle.face.specs.Faces.{Triangle, Face, quad}
 use Rattle.flattening.specs.Plane.{lidNormal}
 use Rattle.lid.specs.Lid.{Lid}
@@ -53,7 +53,7 @@ lidAt s i outer holes = outlineLid (cornersAt s outer (cornersOf i holes)) (hole
 
 -- its n corners are counted, within the limits of document 01, section 1, and lie in the bytes
 pub record Placed (s : List ℕ) (i outer holes n : ℕ) : Type 0 where
-  pub counted : Counted s i outer holes n
+  pub counted : CornersCounted s i outer holes n
   pub inside : CornersIn s (cornersOf i holes) n
 
 -- what the code has worked out of it

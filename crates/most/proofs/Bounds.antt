@@ -21,6 +21,7 @@ use Rattle.shapes.proofs.Sizes.{points, box-points, cylinder-points, outline-po
 use Rattle.scene_mesh.specs.Demand3.{LongEnough}
 use Rattle.scene_mesh.specs.Mesh.{keptBy}
 use Rattle.scene_mesh.specs.Operations.{output, countsOf}
+use Rattle.scene_mesh.proofs.Rooms.{numbers-within}
 use Rattle.most.specs.declared.Most.{Most}
 use Rattle.most.specs.Most.{ofShape, solidMost, outlineMost, sweepMost, mostOf, exactOf, nothing as none, together, inPart, partOf, partOfAll, numbersOf, mostCounts}
 use Rattle.most.proofs.Exact.{exact-counts}
@@ -87,18 +88,10 @@ module _ (limit : Float) where
   all-within lids exact [] = same none
   all-within lids exact (o ∷ os) = both (part-within lids exact (o .shape)) (all-within lids exact os)
 
-  numbers-within : (n : ℕ) {a b : Most} → AtMost a b → LongEnough (numbersOf b n) (numbersOf a n)
-  numbers-within n q =
-      record {
-        vertices = omega (arith, q .vertices);
-        normals = omega (arith, q .vertices);
-        indices = omega (arith, q .triangles);
-        spans = omega (arith, q .spans);
-        account = le-refl _;
-        log = omega (arith, q .entries);
-      }
-
   pub most-enough : (others lids : Bool) (os : List Object) → LongEnough (mostCounts others lids limit os) (countsOf (output limit os))
   unfolding mostCounts
   most-enough others lids os =
-      subst (LongEnough (mostCounts others lids limit os)) (exact-counts limit os) (numbers-within (length os) (both (all-within false others os) (all-within true lids os)))
+      subst (LongEnough (mostCounts others lids limit os)) (exact-counts limit os) (within (both (all-within false others os) (all-within true lids os)))
+    where
+      within : {a b : Most} → AtMost a b → LongEnough (numbersOf b (length os)) (numbersOf a (length os))
+      within q = numbers-within (q .vertices) (q .triangles) (q .spans) (le-refl (length os)) (q .entries)

@@ -5,6 +5,7 @@ use native.Mathlib.Omega.{arith}
 use Rattle.most.specs.declared.Most.{Most}
 use Rattle.fields.specs.Layout.{mostBytes, mostObjects}
 use Rattle.scene_mesh.specs.PerBuffer.{FitCounts}
+use Rattle.scene_mesh.proofs.Rooms.{numbers-fit}
 use Rattle.most.specs.Most.{together, numbersOf, Few}
 use Rattle.most.proofs.Bounds.{AtMost}
 
@@ -33,13 +34,5 @@ few-together f g =
 -- what both parts of n objects take in each buffer fits u32
 pub few-fit : {a b : Most} {n : ℕ} → Few a mostBytes mostObjects → Few b mostBytes mostObjects → n ≤ mostObjects → FitCounts (numbersOf (together a b) n)
 few-fit p q h =
-    let v = p .vertices in
-    let w = q .vertices in
-    record {
-      vertices = omega arith;
-      normals = omega arith;
-      indices = omega (arith, p .triangles, q .triangles);
-      spans = omega (arith, p .spans, q .spans);
-      account = omega arith;
-      log = omega (arith, p .entries, q .entries);
-    }
+    numbers-fit _ _ _ _ _ (omega (arith, p .vertices, q .vertices)) (omega (arith, p .triangles, q .triangles)) (omega (arith, p .spans, q .spans)) (omega arith)
+    (omega (arith, p .entries, q .entries))

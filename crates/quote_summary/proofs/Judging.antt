@@ -16,7 +16,7 @@ use Rattle.scene_mesh.specs.Mesh.{Mesh, meshOf, accountsOf, accountNumbers}
 use Rattle.scene_mesh.specs.PerBuffer.{Counts, Buffers, lent}
 use Rattle.scene_mesh.specs.Operations.{Answer, Built, refusedWith, output, countsOf, done, measureScene, measure, overlay, tooShort, buildOutput, buildScene, build}
 use Rattle.scene_mesh.specs.Demand3.{LongEnough}
-use Rattle.scene_mesh.proofs.Demand3.{long-enough}
+use Rattle.scene_mesh.proofs.Rooms.{long-enough}
 use Rattle.scene_mesh.proofs.MeshSizes.{output-counts}
 use Rattle.answers.specs.declared.Answer.{Answer as CAnswer}
 use Rattle.answers.specs.Answers.{builtWith, answerFrom, BuiltAndJudged, judged, buildAndValidate}

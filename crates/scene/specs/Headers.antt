@@ -86,7 +86,7 @@ pub record Laid (i : ℕ) (p : SolidAt) : Type 0 where
   pub sizes : p .orientation + orientationBytes ≤ p .sizes
 
 -- an outline's corners are counted, and within the limits of document 01, section 1
-pub record Counted (s : List ℕ) (i outer holes corners : ℕ) : Type 0 where
+pub record CornersCounted (s : List ℕ) (i outer holes corners : ℕ) : Type 0 where
   pub total : corners ≡ cornerCount s i outer holes
   pub few : holes ≤ mostHoles
   pub most : corners ≤ mostCorners
@@ -94,7 +94,7 @@ pub record Counted (s : List ℕ) (i outer holes corners : ℕ) : Type 0 where
 -- what holds of a body that was read from an accepted scene
 abbrev pub Limits : List ℕ → ℕ → Body → Type 0
 Limits s i (Solid p) = Laid i p
-Limits s i (Outline closed outer holes corners) = Counted s i outer holes corners
+Limits s i (Outline closed outer holes corners) = CornersCounted s i outer holes corners
 Limits s i (Sweep round sections) = sections ≤ mostSections
 
 -- a solid's position and orientation lie in the bytes

@@ -23,6 +23,7 @@ use Rattle.scene_mesh.specs.Mesh.{Span, keptBy, pieceOf, spanOf, addPiec
 use Rattle.scene_mesh.specs.PerBuffer.{FitCounts}
 use Rattle.scene_mesh.specs.Operations.{output, countsOf}
 use Rattle.scene_mesh.proofs.MeshSizes.{output-counts}
+use Rattle.scene_mesh.proofs.Rooms.{numbers-fit}
 
 -- ---- a record's bytes
 
@@ -110,6 +111,5 @@ module _ (limit : Float) where
         let size = a .size in
         let few = a .few in
         let short = a .short in
-        let v = c .vertices 0 0 in
         subst FitCounts (output-counts limit os)
-        (record { vertices = omega arith; normals = omega arith; indices = omega (arith, c .kept); spans = omega (arith, c .spans 0 0); account = omega arith; log = omega (arith, c .entries) })
+        (numbers-fit _ _ _ _ _ (omega (arith, c .vertices 0 0)) (omega (arith, c .kept)) (omega (arith, c .spans 0 0)) (omega arith) (omega (arith, c .entries)))

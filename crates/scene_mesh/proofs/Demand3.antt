@@ -5,14 +5,11 @@ pub mod Records
 pub mod Spans
 pub mod Verdict
 use mathlib.Core.Path.{_≡_, refl, sym, _∙_, ap, subst, subst₂}
-use mathlib.Core.Bool.{false}
 use mathlib.Core.List.{List}
 use Prim.Native.Nat.{ℕ, _/_}
 use native.Mathlib.Omega.{arith}
 use lib.ListN.{length}
-use lib.Dec.{ltb}
 use lib.Ieee.{Float}
-use borrow.Author.Tests.{le-ltb}
 use Rattle.lists.specs.Each.{Each, Pairwise}
 use Rattle.float.specs.Number.{minArea}
 use Rattle.coords.specs.declared.Point.{Point}
@@ -24,7 +21,7 @@ use Rattle.scene_mesh.specs.Demand3.{AccountHolds, AreasFollow, SpansFol
 use Rattle.scene_mesh.specs.Mesh.{Span, Account, accountsOf, logsOf, meshOf}
 use Rattle.scene_mesh.specs.declared.Room.{Room}
 use Rattle.scene_mesh.specs.declared.Room.the-variants.{Enough}
-use Rattle.scene_mesh.specs.PerBuffer.{PerBuffer, each, at, Counts, Buffers}
+use Rattle.scene_mesh.specs.PerBuffer.{Buffers}
 use Rattle.scene_mesh.specs.Operations.{countsOf, output, done, tooShort, measureScene, measure, buildOutput, buildScene, build}
 use Rattle.coords.proofs.Buffers.{vertices-size, vertices-back}
 use Rattle.coords.proofs.Turned.{Above, min-above}
@@ -36,6 +33,7 @@ use Rattle.scene_mesh.proofs.Demand3.Areas.{areas-follow}
 use Rattle.scene_mesh.proofs.Demand3.Records.{measured-is-written, spans-back, accounts-back}
 use Rattle.scene_mesh.proofs.Demand3.Spans.{mesh-spans, mesh-ends}
 use Rattle.scene_mesh.proofs.Demand3.Verdict.{verdict-holds}
+use Rattle.scene_mesh.proofs.Rooms.{long-enough}
 
 -- ---- of what is written for a list of objects
 
@@ -55,12 +53,6 @@ written-holds limit above os near =
     }
 
 -- ---- what Build leaves in the measured first parts of long enough buffers is that, whatever they held
-
-pub long-enough : (has needs : Counts) → LongEnough has needs → tooShort has needs ≡ Enough
-unfolding tooShort
-long-enough has needs l =
-    let fits : PerBuffer (λ k. ltb (at has k) (at needs k) ≡ false) = each (λ k. le-ltb (at has k) (at needs k) (at l k)) in
-    rw (fits .vertices, fits .normals, fits .indices, fits .spans, fits .account, fits .log)
 
 built : (written b : Buffers) (n : Room) → n ≡ Enough → measured (countsOf written) (buildOutput written b n .buffers) ≡ written
 unfolding buildOutput

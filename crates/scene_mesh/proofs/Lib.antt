@@ -4,3 +4,4 @@ pub mod Vertices
 pub mod Lending
 pub mod MeshSizes
 pub mod Comes
+pub mod Rooms

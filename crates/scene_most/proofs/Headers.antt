@@ -13,7 +13,7 @@ use Rattle.object.specs.declared.Extent.the-variants.{Box, Cylinder, Unsized}
 use Rattle.fields.specs.Fields.{countsAt, holesAt}
 use Rattle.scene.specs.declared.headers.Body.{Body}
 use Rattle.scene.specs.declared.headers.Body.the-variants.{Solid, Outline, Sweep}
-use Rattle.scene.specs.Headers.{bodySize, shapeOf, Counted, Limits}
+use Rattle.scene.specs.Headers.{bodySize, shapeOf, CornersCounted, Limits}
 use Rattle.scene.proofs.Parts.{corners-length, holes-size, holes-length, counts-length, sections-length}
 use Rattle.lid.proofs.Facts.{total}
 use Rattle.shapes.proofs.Sizes.{sum-lengths}
@@ -23,7 +23,7 @@ use Rattle.most.proofs.Bounds.{most-within}
 use Rattle.most.proofs.Few.{few-among, few-less}
 
 module _ (s : List ℕ) (i : ℕ) where
-  pub most-outline : (closed : Bool) (outer holes corners : ℕ) → Counted s i outer holes corners → outlineMost closed outer (corners - outer) holes ≡ mostOf (shapeOf s i (Outline closed outer holes corners))
+  pub most-outline : (closed : Bool) (outer holes corners : ℕ) → CornersCounted s i outer holes corners → outlineMost closed outer (corners - outer) holes ≡ mostOf (shapeOf s i (Outline closed outer holes corners))
   unfolding mostOf
   most-outline closed outer holes corners l =
       let counts = countsAt s holes (i + 4) in

@@ -23,6 +23,7 @@ use Rattle.answers.specs.declared.Counted.{Counted}
 use Rattle.answers.specs.Answers.{countsFrom}
 use Rattle.scene_mesh.proofs.Demand3.Spans.{piece-size}
 use Rattle.scene_mesh.proofs.MeshSizes.{piece-normals, output-counts}
+use Rattle.scene_mesh.proofs.Rooms.{numbers-fit}
 
 module _ (limit : Float) where
   -- ---- one after the other
@@ -105,12 +106,7 @@ module _ (limit : Float) where
   pub fewer-fit : (os : List Object) (st : Pass) → Fits (withObjects limit os st) → Fits st
   unfolding withObjects
   fewer-fit os st f =
-      let v = f .vertices in
-      let k = f .indices in
-      let s = f .spans in
-      let o = f .account in
-      let e = f .log in
-      record { vertices = omega arith; normals = omega arith; indices = omega arith; spans = omega arith; account = omega arith; log = omega arith }
+      numbers-fit _ _ _ _ _ (omega (arith, f .vertices)) (omega (arith, f .indices)) (omega (arith, f .spans)) (omega (arith, f .account)) (omega (arith, f .log))
 
   -- whatever the buffers hold
   pub other-buffers : (o : Object) (p : Progress) (b c : Buffers) → Fits (withObject limit o (passOf p b)) → Fits (withObject limit o (passOf p c))
