@@ -4,8 +4,7 @@ ghost use mathlib.Core.Path.{_≡_};
 ghost use Rattle.scene.specs.declared.scenes.Checked.the-variants.{Accepted};
 ghost use Rattle.scene.specs.Scene.{scene};
 ghost use Rattle.scene.specs.Answers.{checkedOf};
-ghost use Rattle.scene_mesh.specs.PerBuffer.{entering, leaving};
-ghost use Rattle.progress.specs.Pass.{beginning, CanAdd, AddedObject, CanAddAll, AddedScene};
+ghost use Rattle.progress.specs.Pass.{drawnEntering, drawnLeaving, beginning, CanAdd, AddedObject, CanAddAll, AddedScene};
 ghost use Rattle.progress.specs.Wrote.{WroteScene};
 use answers::Counted;
 use progress::BEGINNING;
@@ -29,7 +28,7 @@ fn object_at(
     log: &mut [u32],
 ) -> Progress
     requires { ⌜ CanAdd limit (now s) p ⌝ }
-    ensures { λ r. ⌜ AddedObject limit (now (s .entry)) p r (entering vs ns is spans account log) (leaving vs ns is spans account log) ⌝ }
+    ensures { λ r. ⌜ AddedObject limit (now (s .entry)) p r (drawnEntering vs ns is spans account log) (drawnLeaving vs ns is spans account log) ⌝ }
 {
     let h = headers::header_at(s, p.at);
     let body = h.body;
@@ -70,7 +69,7 @@ pub fn write_behind(
     log: &mut [u32],
 ) -> Progress
     requires { ⌜ (Accepted n ≡ checkedOf (scene (now s))) × CanAddAll limit (now s) from ⌝ }
-    ensures { λ r. ⌜ AddedScene limit (now (s .entry)) from r (entering vs ns is spans account log) (leaving vs ns is spans account log) ⌝ }
+    ensures { λ r. ⌜ AddedScene limit (now (s .entry)) from r (drawnEntering vs ns is spans account log) (drawnLeaving vs ns is spans account log) ⌝ }
 {
     let end = from.objects + n;
     let mut p = Progress {
@@ -100,7 +99,7 @@ pub fn write_objects(
     log: &mut [u32],
 ) -> Counted
     requires { ⌜ (Accepted n ≡ checkedOf (scene (now s))) × CanAddAll limit (now s) beginning ⌝ }
-    ensures { λ r. ⌜ WroteScene limit (now (s .entry)) r (entering vs ns is spans account log) (leaving vs ns is spans account log) ⌝ }
+    ensures { λ r. ⌜ WroteScene limit (now (s .entry)) r (drawnEntering vs ns is spans account log) (drawnLeaving vs ns is spans account log) ⌝ }
 {
     count_numbers(write_behind(s, n, limit, BEGINNING, vs, ns, is, spans, account, log))
 }

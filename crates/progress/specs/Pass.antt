@@ -6,8 +6,10 @@ use mathlib.Core.List.{List, [], _∷_}
 use lib.ListN.{length}
 use lib.Seq.{sets}
 use lib.Dec.{leb, eqb}
+use denote.Ref.{now}
 use lib.Ieee.{Float}
 use Rattle.lists.specs.Loops.{sumOf}
+use Rattle.lists.specs.Slices.{Slice}
 use Rattle.coords.specs.Buffers.{vertexNumbers, normalNumbers}
 use Rattle.object.specs.Object.{Shape, Object}
 use Rattle.fields.specs.Layout.{mostBytes}
@@ -24,8 +26,19 @@ use Rattle.shapes.specs.Shapes.{facesOf, logOf}
 use Rattle.progress.specs.declared.Progress.{Progress}
 use Rattle.progress.specs.declared.Starts.{Starts}
 use Rattle.scene_mesh.specs.Mesh.{Span, keptBy, thinBy, accountOf, pieceOf, spanOf, meshFrom, accountsOf, logsOf, spanNumbers, accountRecord, accountNumbers}
-use Rattle.scene_mesh.specs.PerBuffer.{each, at, numbersFor, Counts, FitCounts, Buffers}
+use Rattle.scene_mesh.specs.PerBuffer.{each, at, numbersFor, Counts, FitCounts, Buffers, lent}
 use Rattle.scene_mesh.specs.Operations.{written}
+
+-- the buffers that objects are drawn into: all, in the order of a call
+abbrev pub drawnInto : List Float → List Float → List ℕ → List ℕ → List ℕ → List ℕ → Buffers
+drawnInto vs ns is ss accounts ls = lent vs ns is ss accounts ls
+
+-- as the pass is lent them, when it is called and when it returns
+abbrev pub drawnEntering : Slice Float → Slice Float → Slice ℕ → Slice ℕ → Slice ℕ → Slice ℕ → Buffers
+drawnEntering vs ns is ss accounts ls = drawnInto (now (vs .entry)) (now (ns .entry)) (now (is .entry)) (now (ss .entry)) (now (accounts .entry)) (now (ls .entry))
+
+abbrev pub drawnLeaving : Slice Float → Slice Float → Slice ℕ → Slice ℕ → Slice ℕ → Slice ℕ → Buffers
+drawnLeaving vs ns is ss accounts ls = drawnInto (now (vs .exit)) (now (ns .exit)) (now (is .exit)) (now (ss .exit)) (now (accounts .exit)) (now (ls .exit))
 
 -- before the first object
 abbrev pub beginning : Progress

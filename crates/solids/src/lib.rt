@@ -32,7 +32,8 @@ pub fn solid(
     is: &mut [u32],
 ) -> StageTallies
     requires { ⌜ SolidIn (now s) p × Room before t 96 60 ⌝ }
-    ensures { λ r. ⌜ DrawsStages limit (solidStages (pointAt (now (s .entry)) (p .position)) (orientationOf (now (s .entry)) p) (p .extent)) before t r vs ns is ⌝ }
+    ensures { λ r. ⌜ DrawsStages limit (solidStages (pointAt (now (s .entry)) (p .position)) (orientationOf (now (s .entry)) p) (p .extent))
+        before t r vs ns is ⌝ }
 {
     let origin = geometry::point_at(s, p.position);
     let turn = orientation_of(s, p);

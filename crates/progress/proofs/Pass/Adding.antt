@@ -26,9 +26,8 @@ use Rattle.shapes.specs.Price.{offered}
 use Rattle.shapes.specs.Stages.{lastOf}
 use Rattle.shapes.proofs.Stages.{stages-faces}
 use Rattle.progress.specs.declared.Progress.{Progress}
-use Rattle.scene_mesh.specs.PerBuffer.{lent}
 use Rattle.scene_mesh.specs.Mesh.{Span, keptBy, thinBy, accountOf, pieceOf, spanOf, spanNumbers, accountNumbers}
-use Rattle.progress.specs.Pass.{startOf, spanBy, Came, cameTo, accountBy, spansMore, advanced, CanAdvance, drawnOf, DrewBehind, passOf, withObject, Fits, CanAdd, AddedObject}
+use Rattle.progress.specs.Pass.{drawnInto, startOf, spanBy, Came, cameTo, accountBy, spansMore, advanced, CanAdvance, drawnOf, DrewBehind, passOf, withObject, Fits, CanAdd, AddedObject}
 use Rattle.scene_mesh.proofs.Demand3.Spans.{piece-size}
 use Rattle.progress.proofs.Pass.Tails.{tailOf, backOf, lent-back}
 
@@ -82,8 +81,8 @@ module _ (limit : Float) (sh : Shape) (p : Progress) (vs ns : List Float) (is ls
 
 module _ {limit : Float} {s : List ℕ} {p : Progress} (a : CanAdd limit s p) where
   -- what the next object counts to
-  next-fits : Fits (withObject limit (objectOf s (p .at) (headerAt s (p .at))) (passOf p (lent [] [] [] [] [] [])))
-  next-fits = a .fits (lent [] [] [] [] [] [])
+  next-fits : Fits (withObject limit (objectOf s (p .at) (headerAt s (p .at))) (passOf p (drawnInto [] [] [] [] [] [])))
+  next-fits = a .fits (drawnInto [] [] [] [] [] [])
 
   pub record-inside : p .at < length s
   unfolding headerAt
@@ -147,7 +146,7 @@ span-count id p t = one-or-none (eqb (t .kept) 0) _
 module _ (limit : Float) (s : List ℕ) (p : Progress) (vs ns : List Float) (is ss accounts ls : List ℕ) {vs′ ns′ : List Float} {is′ ss′ accounts′ ls′ : List ℕ} {h : Header} {d : Came} {r : Progress} where
   added-by : h ≡ headerAt s (p .at) → DrewBehind limit (shapeOf s (p .at + 5) (headerAt s (p .at) .body)) p d vs ns is ls vs′ ns′ is′ ls′
       → ss′ ≡ sets ss (5 * p .spans) (spanNumbers (spanBy (headerAt s (p .at) .id) p (d .tally))) → accounts′ ≡ sets accounts (4 * p .objects) (accountBy d) → r ≡ advanced p (h .size) d
-      → passOf r (lent vs′ ns′ is′ ss′ accounts′ ls′) ≡ withObject limit (objectOf s (p .at) (headerAt s (p .at))) (passOf p (lent vs ns is ss accounts ls))
+      → passOf r (drawnInto vs′ ns′ is′ ss′ accounts′ ls′) ≡ withObject limit (objectOf s (p .at) (headerAt s (p .at))) (passOf p (drawnInto vs ns is ss accounts ls))
   unfolding withObject pieceOf accountOf drawnOf accountNumbers join
   added-by e w x y z =
       let H = headerAt s (p .at) in
@@ -175,7 +174,7 @@ module _ (limit : Float) (s : List ℕ) (p : Progress) (vs ns : List Float) (is 
 
   pub added-object : h ≡ headerAt s (p .at) → DrewBehind limit (shapeOf s (p .at + 5) (h .body)) p d vs ns is ls vs′ ns′ is′ ls′
       → ss′ ≡ sets ss (5 * p .spans) (spanNumbers (spanBy (h .id) p (d .tally))) → accounts′ ≡ sets accounts (4 * p .objects) (accountBy d) → r ≡ advanced p (h .size) d
-      → AddedObject limit s p r (lent vs ns is ss accounts ls) (lent vs′ ns′ is′ ss′ accounts′ ls′)
+      → AddedObject limit s p r (drawnInto vs ns is ss accounts ls) (drawnInto vs′ ns′ is′ ss′ accounts′ ls′)
   added-object e w x y z =
       record {
         next = ap (λ (k : Progress). k .at) z ∙ ap (λ (k : Header). p .at + k .size) e;

@@ -16,9 +16,9 @@ use Rattle.answers.specs.declared.Counted.{Counted}
 use Rattle.answers.specs.Answers.{countsFrom}
 use Rattle.progress.specs.declared.Progress.{Progress}
 use Rattle.progress.specs.Wrote.{countedBy, WroteAll}
-use Rattle.scene_mesh.specs.PerBuffer.{Buffers, lent}
+use Rattle.scene_mesh.specs.PerBuffer.{Buffers}
 use Rattle.scene_mesh.specs.Operations.{countsOf}
-use Rattle.progress.specs.Pass.{beginning, Pass, passOf, withObject, withObjects, Fits, CanAdd, AddedObject, CanAddAll, AddedAll}
+use Rattle.progress.specs.Pass.{drawnInto, beginning, Pass, passOf, withObject, withObjects, Fits, CanAdd, AddedObject, CanAddAll, AddedAll}
 use Rattle.progress.proofs.Pass.Objects.{objects-none, objects-next, object-lengths, fewer-fit, other-buffers, wrote-all}
 
 -- from p₀ with its buffers b₀, k objects of the scene have led to p with b
@@ -57,7 +57,7 @@ unfolding withObjects
 end-fits limit s n p h c =
     let q = checked-accepted s n h in
     let size = q .size in
-    let f = c (objectsOf (scene s)) (lent [] [] [] [] [] []) (q .is) .account in
+    let f = c (objectsOf (scene s)) (drawnInto [] [] [] [] [] []) (q .is) .account in
     omega arith
 
 module _ {limit : Float} {s : List ℕ} {n : ℕ} {p₀ : Progress} {b₀ b : Buffers} {p : Progress} (w : Walks limit s n p₀ b₀ b p) where

@@ -2,15 +2,16 @@
 use mathlib.Core.Path.{_≡_, refl, ap, subst}
 use Prim.Native.Nat.{ℕ, _+_, _-_, _<_, _≤_}
 use native.Mathlib.Omega.{arith}
+use Rattle.progress.specs.Pass.{drawnInto}
 use Rattle.progress.proofs.Pass.Walks.{Walks, begunAt, walks-start, end-fits, can-add, one-more, walks-next, walks-end}
-use Rattle.scene_mesh.specs.PerBuffer.{Counts, lent}
+use Rattle.scene_mesh.specs.PerBuffer.{Counts}
 use Rattle.scene_mesh.specs.Operations.{countsOf}
 use Rattle.build.proofs.pass.write_behind.Statement.{statement}
 use Rattle.build.proofs.pass.write_behind.Tie as tie
 
 abbrev Inv-loop : tie.InvT-loop
 Inv-loop s n limit vs₀ ns₀ is₀ spans₀ account₀ log₀ end p₀ vs ns is spans account log p =
-    Walks limit s n p₀ (lent vs₀ ns₀ is₀ spans₀ account₀ log₀) (lent vs ns is spans account log) p × (end ≡ p₀ .objects + n)
+    Walks limit s n p₀ (drawnInto vs₀ ns₀ is₀ spans₀ account₀ log₀) (drawnInto vs ns is spans account log) p × (end ≡ p₀ .objects + n)
 
 abbrev μ-loop : tie.MeasureT-loop
 μ-loop s n limit vs₀ ns₀ is₀ spans₀ account₀ log₀ end p₀ vs ns is spans account log p = end - p .objects
