@@ -54,8 +54,7 @@ fn exact_at(s: &[u8], i: usize, body: Body, limit: f32) -> Most
     let mut is = [0u32; 0];
     let mut log = [0u32; 0];
     let d = draw::draw(s, i, body, limit, 0, &mut vs, &mut ns, &mut is, &mut log);
-    let after = d.after;
-    let t = after[5];
+    let t = d.after[5];
     of_shape(t.vertices, t.kept, d.entries)
 }
 

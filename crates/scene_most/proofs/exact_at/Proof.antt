@@ -6,7 +6,7 @@ use Rattle.scene_most.proofs.exact_at.Statement.{statement}
 use Rattle.scene_most.proofs.exact_at.Tie as tie
 
 returns : tie.Need-returns
-returns c = c .of-shape .ensures ∙ drawn-exact (c .before .before .before .before .before .before .before .draw .ensures)
+returns c = c .of-shape .ensures ∙ drawn-exact (c .before .before .before .before .before .before .draw .ensures)
 
 pub exact-at-spec : {M : Type 1} → statement M
 exact-at-spec =
