@@ -1,9 +1,13 @@
 -- The faces of a box: their points and triangles, the room that they leave, and the whole drawn face by face. Assumes nothing.
-use mathlib.Core.Path.{_≡_}
+use mathlib.Core.Path.{_≡_, refl, sym, ap, _∙_, subst, subst₂}
 use mathlib.Core.Bool.{true, false}
 use mathlib.Core.List.{List, [], _∷_, _++_, append-nil}
-use Prim.Native.Nat.{ℕ, _+_, zero-le}
+use Prim.Native.Nat.{ℕ, zero, suc, _+_, _-_, _*_, _≤_, _<_, zero-le}
+use native.Mathlib.Nat.{zero-add}
+use native.Mathlib.Numerals.{add-one}
 use native.Mathlib.Omega.{arith}
+use lib.ListN.{length, getD, set, drop, length-append, drop-of-length-le}
+use lib.Seq.{sets, sets-eq}
 use lib.Dec.{lit≤}
 use lib.Ieee.{Float, eq}
 use Rattle.lists.specs.Loops.{list, join, sumOf}
@@ -14,10 +18,14 @@ use Rattle.vectors.specs.Vectors.{negate}
 use Rattle.object.specs.declared.Orientation.{Orientation}
 use Rattle.object.specs.Object.{frame}
 use Rattle.face.specs.Faces.{fan, quad}
-use Rattle.face.specs.Drawing.{Drawing, Drew, Room}
+use Rattle.face.specs.Drawing.{tally, Drawing, Drew, Room}
+use Rattle.face.proofs.Draws.{room-less}
+use Rattle.lists.proofs.Stores.{sets-append}
 use Rattle.face.specs.declared.Tally.{Tally}
 use Rattle.shapes.specs.Shapes.{Axis, onAxis, alongX, alongY, alongZ, boxFace}
-use Rattle.shapes.specs.Stages.{PartRun, sideStages, boxStages, DrewStages}
+use Rattle.shapes.specs.Stages.{PartRun, sideStages, boxStages, DrewStages, lastOf}
+use Rattle.boxes.specs.declared.Placed.{Placed}
+use Rattle.boxes.specs.Axes.{axisNo, depthNo, sidesNo, boxTo}
 use Rattle.shapes.proofs.Rooms.{Sized, sized-append, sized-cond, room-left}
 use Rattle.shapes.proofs.Stages.{stages-none, stages-first, stages-empty, stages-then}
 
@@ -51,16 +59,66 @@ module _ (o : Point) (t : Orientation) (l w h : Float) (axis : Axis) where
     unfolding sideStages
     both-sides e second = rw (e, ← along) (stages-first limit part first (stages-first limit (part + 1) second (stages-none limit)))
 
--- all axes, and the room that the first of them leave
-module _ (o : Point) (t : Orientation) (l w h limit : Float) {before : ℕ} {d d₁ : Drawing} {ts : List Tally}
-    (xs : DrewStages limit (sideStages o t l w h alongX l 11) before d d₁ ts) where
-  pub second-room : Room before (d .tally) 24 12 → Room before (d₁ .tally) 16 8
-  second-room room = room-left limit room (xs .drew) (box-sides-sized o t l w h alongX l 11) (lit≤ tt) (lit≤ tt)
+-- a number that is neither 0 nor 1 is that of the last axis
+pub axis-last : (k : ℕ) → (k ≡ 0 → ⊥) → (k ≡ 1 → ⊥) → axisNo k ≡ alongZ
+unfolding axisNo
+axis-last zero h g = absurd (h refl)
+axis-last (suc zero) h g = absurd (g refl)
+axis-last (suc (suc k)) h g = refl
 
-  module _ {d₂ : Drawing} {us : List Tally} (ys : DrewStages limit (sideStages o t l w h alongY w 13) before d₁ d₂ us) where
-    pub third-room : Room before (d .tally) 24 12 → Room before (d₂ .tally) 8 4
-    third-room room = room-left limit (second-room room) (ys .drew) (box-sides-sized o t l w h alongY w 13) (lit≤ tt) (lit≤ tt)
+pub depth-last : (b : Placed) (k : ℕ) → (k ≡ 0 → ⊥) → (k ≡ 1 → ⊥) → depthNo b k ≡ b .height
+unfolding depthNo
+depth-last b zero h g = absurd (h refl)
+depth-last b (suc zero) h g = absurd (g refl)
+depth-last b (suc (suc k)) h g = refl
 
-    pub box-drawn : {d₃ : Drawing} {ws : List Tally} → DrewStages limit (sideStages o t l w h alongZ h 15) before d₂ d₃ ws → DrewStages limit (boxStages o t l w h) before d d₃ (ts ++ us ++ ws)
-    unfolding boxStages
-    box-drawn zs = stages-then limit (stages-then limit xs ys) zs
+-- two counts stored behind others
+two-behind : (l w : List Tally) (x y : Tally) (i : ℕ) → i ≡ length w → set (set (sets l 0 w) i x) (i + 1) y ≡ sets l 0 (w ++ (x ∷ y ∷ []))
+two-behind l w x y i e =
+    rw (e, add-one (length w))
+    (subst (λ (j : ℕ). set (set (sets l 0 w) j x) (suc j) y ≡ sets l 0 (w ++ (x ∷ y ∷ []))) (zero-add (length w)) (sets-append l 0 w (x ∷ y ∷ [])))
+
+last-of : (w : List Tally) (x y d : Tally) → getD (w ++ (x ∷ y ∷ [])) (suc (length w)) d ≡ y
+last-of [] x y d = refl
+last-of (a ∷ w) x y d = last-of w x y d
+
+-- the faces across the first k axes are drawn, and the counts after each of them stored from the start of an array on
+pub record Drawn (limit : Float) (b : Placed) (before : ℕ) (d d′ : Drawing) (old after : List Tally) (k : ℕ) : Type 0 where
+  pub tallies : List Tally
+  pub size : length tallies ≡ 2 * k
+  pub stored : after ≡ sets old 0 tallies
+  pub drew : DrewStages limit (boxTo b k) before d d′ tallies
+  pub room : Room before (d′ .tally) (8 * (3 - k)) (4 * (3 - k))
+  pub last : (j : ℕ) → length tallies ≡ suc j → getD tallies j (tally 0 0 0) ≡ d′ .tally
+
+module _ (limit : Float) (b : Placed) (before : ℕ) (d : Drawing) (old : List Tally) where
+  pub drawn-start : Room before (d .tally) 24 12 → Drawn limit b before d d old old 0
+  unfolding boxTo
+  drawn-start r = record { tallies = []; size = refl; stored = refl; drew = stages-none limit; room = r; last = λ j e. absurd (omega arith) }
+
+  module _ {d′ : Drawing} {after : List Tally} {k : ℕ} (t : Drawn limit b before d d′ old after k) (h : k < 3) where
+    pub drawn-room : Room before (d′ .tally) 8 4
+    drawn-room = room-less (t .room) (omega arith) (omega arith)
+
+    pub drawn-next : {d″ : Drawing} {x : Tally} → DrewStages limit (sidesNo b k) before d′ d″ (x ∷ d″ .tally ∷ [])
+        → Drawn limit b before d d″ old (set (set after (2 * k) x) (2 * k + 1) (d″ .tally)) (k + 1)
+    unfolding boxTo sidesNo
+    drawn-next {d″} {x} s = record {
+      tallies = t .tallies ++ (x ∷ d″ .tally ∷ []);
+      size = omega (arith, t .size, length-append (t .tallies) (x ∷ d″ .tally ∷ []));
+      stored = rw (t .stored) (two-behind old (t .tallies) x (d″ .tally) (2 * k) (sym (t .size)));
+      drew = rw (add-one k) (stages-then limit (t .drew) s);
+      room = room-left limit (t .room) (s .drew) (box-sides-sized (b .origin) (b .turn) (b .length) (b .width) (b .height) (axisNo k) (depthNo b k) (11 + 2 * k)) (omega arith) (omega arith);
+      last = λ j e. let at : j ≡ suc (length (t .tallies)) = omega (arith, length-append (t .tallies) (x ∷ d″ .tally ∷ [])) in rw (at) (last-of (t .tallies) x (d″ .tally) (tally 0 0 0));
+    }
+
+-- with all axes drawn the array holds the counts, the last of them those of the drawing
+pub drawn-all : (limit : Float) (b : Placed) (before : ℕ) {d d′ : Drawing} {old after : List Tally} {k : ℕ} → Drawn limit b before d d′ old after k → k ≡ 3 → length old ≡ 6
+    → DrewStages limit (boxStages (b .origin) (b .turn) (b .length) (b .width) (b .height)) before d d′ after × (lastOf after ≡ d′ .tally)
+unfolding boxStages boxTo sidesNo axisNo depthNo
+drawn-all limit b before {d} {d′} {old} {after} {k} t e h =
+    let n : length (t .tallies) ≡ 6 = t .size ∙ ap (λ (j : ℕ). 2 * j) e in
+    let past : length old ≤ 0 + length (t .tallies) = omega arith in
+    let none : drop (0 + length (t .tallies)) old ≡ [] = drop-of-length-le old past in
+    let all : after ≡ t .tallies = t .stored ∙ sets-eq (t .tallies) old 0 (omega arith) ∙ ap (λ (r : List Tally). t .tallies ++ r) none ∙ append-nil (t .tallies) in
+    (subst₂ (λ (j : ℕ) (r : List Tally). DrewStages limit (boxTo b j) before d d′ r) e (sym all) (t .drew), ap lastOf all ∙ t .last 5 n)

@@ -7,7 +7,7 @@ ghost use Rattle.object.specs.Object.{frame};
 ghost use Rattle.face.specs.Drawing.{Room};
 ghost use Rattle.shapes.specs.Shapes.{onAxis, boxPoint, boxFace};
 ghost use Rattle.shapes.specs.Stages.{boxStages, DrawsStages, DrawsTwo};
-ghost use Rattle.boxes.specs.Axes.{axisOf, sidesOf};
+ghost use Rattle.boxes.specs.Axes.{axisOf, axisNo, depthNo, sidesOf};
 ghost use Rattle.boxes.specs.Quads.{quadOf};
 use coords::Point;
 use face::Tally;
@@ -130,17 +130,29 @@ fn box_sides(
     Sides { along, against }
 }
 
-// The counts across the three axes in order.
-fn six(x: Sides, y: Sides, z: Sides) -> StageTallies
-    ensures { λ r. ⌜ r ≡ x .along ∷ x .against ∷ y .along ∷ y .against ∷ z .along ∷ z .against ∷ [] ⌝ }
+// The axes by number, and how deep a box is along them.
+fn axis_at(k: u32) -> Axis
+    ensures { λ r. ⌜ axisOf r ≡ axisNo k ⌝ }
 {
-    let a = x.along;
-    let b = x.against;
-    let c = y.along;
-    let d = y.against;
-    let e = z.along;
-    let f = z.against;
-    [a, b, c, d, e, f]
+    if k == 0 {
+        return Axis::X;
+    }
+    if k == 1 {
+        return Axis::Y;
+    }
+    Axis::Z
+}
+
+fn depth_at(b: Placed, k: u32) -> f32
+    ensures { λ r. ⌜ r ≡ depthNo b k ⌝ }
+{
+    if k == 0 {
+        return b.length;
+    }
+    if k == 1 {
+        return b.width;
+    }
+    b.height
 }
 
 // A box centred on the origin in plan and rising from it: what was written and counted after each of
@@ -168,8 +180,18 @@ pub fn cuboid(
         width,
         height,
     };
-    let x = box_sides(b, Axis::X, length, limit, before, t, vs, ns, is);
-    let y = box_sides(b, Axis::Y, width, limit, before, x.against, vs, ns, is);
-    let z = box_sides(b, Axis::Z, height, limit, before, y.against, vs, ns, is);
-    six(x, y, z)
+    let mut after = [t; 6];
+    let mut u = t;
+    let mut k: u32 = 0;
+    // One call for all axes is compiled into the loop; three were slower.
+    while k < 3 {
+        let sides = box_sides(b, axis_at(k), depth_at(b, k), limit, before, u, vs, ns, is);
+        let along = sides.along;
+        let i = 2 * (k as usize);
+        u = sides.against;
+        after[i] = along;
+        after[i + 1] = u;
+        k = k + 1;
+    }
+    after
 }

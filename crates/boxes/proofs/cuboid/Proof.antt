@@ -1,41 +1,45 @@
--- `boxes::cuboid` meets its contract. Assumes nothing.
-use mathlib.Core.Path.{_∙_}
-use lib.Dec.{lit≤}
-use Rattle.face.proofs.Draws.{room-less}
-use Rattle.boxes.specs.Axes.{axisOf}
-use Rattle.boxes.proofs.BoxLaws.{second-room, third-room, box-drawn}
+-- `boxes::cuboid` meets its contract: the faces across the first k axes are drawn, and the counts after each of them stored. Assumes nothing.
+use mathlib.Core.Path.{refl}
+use Prim.Native.Nat.{_+_, _-_, _*_, _≤_, zero-le}
+use native.Mathlib.Nat.{le-antisymm}
+use native.Mathlib.Omega.{arith}
+use borrow.Author.Needs.{needs}
+use Rattle.face.specs.Drawing.{drawing}
+use Rattle.face.proofs.Draws.{drew-vertices, drew-normals, drew-indices}
+use Rattle.boxes.specs.Axes.{axisNo, depthNo, sidesNo}
+use Rattle.boxes.proofs.BoxLaws.{Drawn, drawn-start, drawn-room, drawn-next, drawn-all}
 use Rattle.boxes.proofs.cuboid.Statement.{statement}
 use Rattle.boxes.proofs.cuboid.Tie as tie
 
-box-sides-requires : tie.Need-box-sides-requires
-box-sides-requires c κs = room-less (c .before .before .before .before .before .before .pre) (lit≤ tt) (lit≤ tt)
+abbrev Inv-loop : tie.InvT-loop
+Inv-loop length width height limit before vs₀ ns₀ is₀ b after₀ u₀ k₀ vs ns is after u k =
+    (k ≤ 3) × Drawn limit b before (drawing u₀ vs₀ ns₀ is₀) (drawing u vs ns is) after₀ after k
 
-box-sides-requires-2 : tie.Need-box-sides-requires-2
-unfolding axisOf
-box-sides-requires-2 c κs =
-    let s = c .before .before .before .before .before .before .before .before .before .before .before .before .before .before .before .before in
-    let a = s .args in
-    room-less (second-room (a .origin) (a .turn) (a .length) (a .width) (a .height) (a .limit) (c .before .before .before .before .before .before .before .before .before .box-sides .ensures 11) (s .pre)) (lit≤ tt) (lit≤ tt)
+abbrev μ-loop : tie.MeasureT-loop
+μ-loop length width height limit before vs₀ ns₀ is₀ b after₀ u₀ k₀ vs ns is after u k = 3 - k
 
-box-sides-requires-3 : tie.Need-box-sides-requires-3
-unfolding axisOf
-box-sides-requires-3 c κs =
-    let s = c .before .before .before .before .before .before .before .before .before .before .before .before .before .before .before .before .before .before .before .before .before .before .before .before .before .before in
-    let a = s .args in
-    third-room (a .origin) (a .turn) (a .length) (a .width) (a .height) (a .limit) (c .before .before .before .before .before .before .before .before .before .before .before .before .before .before .before .before .before .before .before .box-sides .ensures 11) (c .before .before .before .before .before .before .before .before .before .box-sides2 .ensures 13) (s .pre)
+loop-holds : tie.Need-loop-holds Inv-loop μ-loop
+loop-holds c = (zero-le, drawn-start _ _ _ _ _ (c .before .before .before .pre))
 
-returns : tie.Need-returns
-unfolding axisOf
+box-sides-requires : tie.Need-box-sides-requires Inv-loop μ-loop
+box-sides-requires c κs = drawn-room _ _ _ _ _ (c .before .before .before .before .before .before .loop .inv .1) (c .before .before .before .before .before .loop-test .taken)
+
+loop-again : tie.Need-loop-again Inv-loop μ-loop
+unfolding sidesNo
+loop-again c =
+    let l = c .before .before .before .before .before .before .before .before .before .before .before .before .before .before .before .loop in
+    let h = c .before .before .before .before .before .before .before .before .before .before .before .before .before .before .loop-test .taken in
+    (omega (arith, h), drawn-next _ _ _ _ _ (l .inv .1) h (rw (c .before .before .before .before .before .before .before .before .before .before .before .before .before .axis-at .ensures, c .before .before .before .before .before .before .before .before .before .before .before .before .depth-at .ensures) at (c .before .before .before .before .before .before .before .before .box-sides .ensures (11 + 2 * l .k))))
+
+returns : tie.Need-returns Inv-loop μ-loop
 returns c =
-    let a = c .before .before .before .before .before .before .before .before .before .before .before .before .before .before .before .before .before .before .before .before .before .before .before .before .before .before .before .before .before .before .before .before .before .before .args in
-    rw (c .six .ensures)
-    (box-drawn (a .origin) (a .turn) (a .length) (a .width) (a .height) (a .limit) (c .before .before .before .before .before .before .before .before .before .before .before .before .before .before .before .before .before .before .before .before .before .before .before .before .before .before .before .box-sides .ensures 11) (c .before .before .before .before .before .before .before .before .before .before .before .before .before .before .before .before .before .box-sides2 .ensures 13) (c .before .before .before .before .before .before .before .box-sides3 .ensures 15))
+    let l = c .before .loop in
+    let r = drawn-all _ _ _ (l .inv .1) (le-antisymm (l .inv .0) (c .loop-test .left)) refl in
+    rw (r .1) (r .0)
 
 pub cuboid-spec : {M : Type 1} → statement M
 cuboid-spec =
     tie.close
-    (tie.spec box-sides-requires box-sides-requires-2 box-sides-requires-3 (λ c κs. tt)
-    (λ c. c .before .before .before .before .before .before .before .box-sides3 .kept .1 .1 .1 .1 .1 .1 .0 ∙ c .before .before .before .before .before .before .before .before .before .before .before .before .before .before .before .before .before .box-sides2 .kept .1 .1 .1 .1 .1 .1 .0 ∙ c .before .before .before .before .before .before .before .before .before .before .before .before .before .before .before .before .before .before .before .before .before .before .before .before .before .before .before .box-sides .kept .1 .1 .1 .1 .1 .1 .0)
-    (λ c. c .before .before .before .before .before .before .before .box-sides3 .kept .1 .1 .1 .1 .1 .1 .1 .0 ∙ c .before .before .before .before .before .before .before .before .before .before .before .before .before .before .before .before .before .box-sides2 .kept .1 .1 .1 .1 .1 .1 .1 .0 ∙ c .before .before .before .before .before .before .before .before .before .before .before .before .before .before .before .before .before .before .before .before .before .before .before .before .before .before .before .box-sides .kept .1 .1 .1 .1 .1 .1 .1 .0)
-    (λ c. c .before .before .before .before .before .before .before .box-sides3 .kept .1 .1 .1 .1 .1 .1 .1 .1 .0 ∙ c .before .before .before .before .before .before .before .before .before .before .before .before .before .before .before .before .before .box-sides2 .kept .1 .1 .1 .1 .1 .1 .1 .1 .0 ∙ c .before .before .before .before .before .before .before .before .before .before .before .before .before .before .before .before .before .before .before .before .before .before .before .before .before .before .before .box-sides .kept .1 .1 .1 .1 .1 .1 .1 .1 .0)
-    returns)
+    (tie.spec Inv-loop μ-loop loop-holds (λ c κs. tt) (λ c κs. tt) box-sides-requires (λ c. search needs) (λ c. search needs) (λ c. search needs) (λ c. search needs) (λ c. search needs)
+    (λ c. search needs) (λ c. search needs) (λ c. omega arith) (λ c. omega arith) loop-again
+    (λ c. drew-vertices _ (c .before .loop .inv .1 .drew .drew)) (λ c. drew-normals _ (c .before .loop .inv .1 .drew .drew)) (λ c. drew-indices _ (c .before .loop .inv .1 .drew .drew)) returns)
