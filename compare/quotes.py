@@ -1,5 +1,5 @@
 #!/usr/bin/env python3
-"""Makes the scenes of crates/quotes and the text that the program must print, by running the original Rust.
+"""Makes the scenes of crates/test_quotes and the text that the program must print, by running the original Rust.
 
   compare/quotes.py ANSWERS        from the repository's root; ANSWERS is the program `answers` that compare/reference builds
 
@@ -82,9 +82,9 @@ for family in run('--families'):
     found += answered(run('--family', family, '--seed', '0', '--count', str(PER_FAMILY)))
 kept = {scene: quote for scene, quote in found if len(scene) <= LARGEST}
 kept.update({scene: 'refused 1\n' for scene in made + [b''] if len(scene) > LARGEST or not scene})
-with open('crates/quotes/data/scenes', 'wb') as scenes:
+with open('crates/test_quotes/data/scenes', 'wb') as scenes:
     scenes.write(b''.join(len(scene).to_bytes(4, 'little') + scene for scene in kept))
-with open('crates/quotes/stdout', 'w', encoding='ascii') as lines:
+with open('crates/test_quotes/stdout', 'w', encoding='ascii') as lines:
     lines.write(''.join(kept.values()))
 refusals = {n: sum(quote == 'refused %d\n' % n for quote in kept.values()) for n in range(1, 11)}
 print(len(kept), 'scenes; refusals', refusals, '; longest text', max(map(len, kept.values())))

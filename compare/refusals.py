@@ -1,9 +1,9 @@
 #!/usr/bin/env python3
-"""Scenes for the program crates/refusals, and what document 01 says of each.
+"""Scenes for the program crates/test_refusals, and what document 01 says of each.
 
     python3 compare/refusals.py
 
-writes crates/refusals/data/scenes and crates/refusals/stdout again, the same bytes each time. It was
+writes crates/test_refusals/data/scenes and crates/test_refusals/stdout again, the same bytes each time. It was
 written from document 01, sections 1 and 2, alone: the Rust has no scene bytes and no refusals. `judge`
 below reads a scene by those sections, with Python's own numbers. A case that was made for one row says
 which answer it expects, and the script stops where `judge` says another.

@@ -1,5 +1,5 @@
 #!/usr/bin/env python3
-"""Makes the scenes of crates/replay and the lines that the program must print, by running the original Rust.
+"""Makes the scenes of crates/test_replay and the lines that the program must print, by running the original Rust.
 
   compare/replay.py ANSWERS        from the repository's root; ANSWERS is the program `answers` that compare/reference builds
 
@@ -27,8 +27,8 @@ found = list(answered(open('compare/examples.txt', encoding='ascii')))
 for family in run('--families'):
     found += answered(run('--family', family, '--seed', '0', '--count', str(PER_FAMILY)))
 kept = {scene: answer for scene, answer in found if len(scene) <= LARGEST}
-with open('crates/replay/data/scenes', 'wb') as scenes:
+with open('crates/test_replay/data/scenes', 'wb') as scenes:
     scenes.write(b''.join(len(scene).to_bytes(4, 'little') + scene for scene in kept))
-with open('crates/replay/stdout', 'w', encoding='ascii') as lines:
+with open('crates/test_replay/stdout', 'w', encoding='ascii') as lines:
     lines.write(''.join(answer + '\n' for answer in kept.values()))
 print(len(kept), 'scenes')

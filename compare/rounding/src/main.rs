@@ -1,7 +1,7 @@
-//! Makes what the test program `crates/rounding` reads and must print, by
+//! Makes what the test program `crates/test_rounding` reads and must print, by
 //! Rust's own `f32::sqrt` and `as f32`. In this folder:
 //!
-//!     cargo run --offline --release -- ../../crates/rounding
+//!     cargo run --offline --release -- ../../crates/test_rounding
 //!
 //! A pattern is a word of four bytes, or two for an f64, the lowest first. A
 //! line holds the pattern of an answer as a decimal number, or `nan`.

@@ -1,7 +1,7 @@
-//! Makes what the test program `crates/verdicts` reads and must print, by the
+//! Makes what the test program `crates/test_verdicts` reads and must print, by the
 //! Rust's own `Mesh::validate`. In this folder:
 //!
-//!     OBJECT_MESH_RUST=FOLDER cargo run --offline --release -- ../../crates/verdicts
+//!     OBJECT_MESH_RUST=FOLDER cargo run --offline --release -- ../../crates/test_verdicts
 //!
 //! FOLDER is the one that holds src/mesh.rs of the Rust. A mesh is a count of
 //! vertex numbers, a count of indices, the numbers and the indices, each a

@@ -1,6 +1,6 @@
 -- To compute with this crate's definitions, name `computes` on an `unfolding` line: it stands for all of them, and for the operations of lib.Ieee that they use.
 use lib.Ieee.{neg, lt, eq}
-use Rattle.vectors.specs.Vectors.{plus, less, scale, negate, dot, cross, norm, normalizeOr}
+use Rattle.coords_vector.specs.Vectors.{plus, less, scale, negate, dot, cross, norm, normalizeOr}
 use Rattle.coords.specs.Coords.{diff, moved, lerp, samePoint, finitePoint, noArea}
 use Rattle.coords.specs.Buffers.{vertexNumbers, normalNumbers, verticesIn}
 

@@ -15,8 +15,8 @@ use lib.Ieee.Scale.{finite}
 use lib.Ieee.Positive.{num, den, den-pos}
 use Rattle.float.specs.Number.{_/f_, zerof, onef, sqrt, isFinite}
 use Rattle.coords.specs.declared.Point.{Point}
-use Rattle.vectors.specs.declared.Vector.{Vector}
-use Rattle.vectors.specs.Vectors.{cross, dot, scale, norm, normalizeOr}
+use Rattle.coords_vector.specs.declared.Vector.{Vector}
+use Rattle.coords_vector.specs.Vectors.{cross, dot, scale, norm, normalizeOr}
 use Rattle.coords.specs.Coords.{diff}
 use Rattle.float.proofs.Rounded.{Holds}
 use Rattle.float.proofs.Within.{Within, add-within, mul-within}

@@ -4,8 +4,8 @@ use lib.Dec.{T, leb, lit≤}
 use lib.Ieee.{Float, binary32, ofBits}
 use Rattle.float.specs.Number.{halff}
 use Rattle.coords.specs.declared.Point.{Point}
-use Rattle.vectors.specs.declared.Vector.{Vector}
-use Rattle.vectors.specs.Vectors.{zeroV, unitX, unitZ, plus, less, negate, dot, cross, scale}
+use Rattle.coords_vector.specs.declared.Vector.{Vector}
+use Rattle.coords_vector.specs.Vectors.{zeroV, unitX, unitZ, plus, less, negate, dot, cross, scale}
 use Rattle.coords.specs.Coords.{origin, diff, moved, lerp}
 use Rattle.float.proofs.Middle.{middle-within}
 use Rattle.float.proofs.Within.{Within, room, within-up, neg-within, add-within, sub-within, mul-within}

@@ -6,7 +6,7 @@ use lib.Ieee.{Float}
 use Rattle.lists.specs.Loops.{list, join}
 use Rattle.float.specs.Number.{zerof}
 use Rattle.coords.specs.declared.Point.{Point}
-use Rattle.vectors.specs.declared.Vector.{Vector}
+use Rattle.coords_vector.specs.declared.Vector.{Vector}
 use Rattle.coords.specs.Coords.{point}
 
 -- ---- written

@@ -2,8 +2,8 @@
 use mathlib.Core.Bool.{Bool, _&&_}
 use lib.Ieee.{Float, lt, eq}
 use Rattle.float.specs.Number.{_+f_, _-f_, zerof, isFinite}
-use Rattle.vectors.specs.declared.Vector.{Vector}
-use Rattle.vectors.specs.Vectors.{vector, scale, cross, norm}
+use Rattle.coords_vector.specs.declared.Vector.{Vector}
+use Rattle.coords_vector.specs.Vectors.{vector, scale, cross, norm}
 use Rattle.coords.specs.declared.Point.{Point}
 
 abbrev pub point : Float → Float → Float → Point

@@ -1,7 +1,7 @@
 // Points: three f32, by value, with the operations of coords.rs in its order.
 ghost use mathlib.Core.Path.{_≡_};
 ghost use Rattle.coords.specs.Coords.{diff, moved, lerp, samePoint, finitePoint};
-use vectors::Vector;
+use coords_vector::Vector;
 
 // A point in the world: metres, right-handed, Z up.
 pub struct Point {
@@ -41,7 +41,9 @@ impl Point {
     pub fn is_finite(self) -> bool
         ensures { λ r. ⌜ r ≡ finitePoint self ⌝ }
     {
-        finite::is_finite(self.x) & finite::is_finite(self.y) & finite::is_finite(self.z)
+        float_finite::is_finite(self.x)
+            & float_finite::is_finite(self.y)
+            & float_finite::is_finite(self.z)
     }
 
     // Equal by value: -0.0 equals +0.0.

@@ -7,7 +7,7 @@ use lib.Ieee.{Float}
 use Rattle.lists.specs.Loops.{list}
 use Rattle.lists.specs.Each.{Each}
 use Rattle.coords.specs.declared.Point.{Point}
-use Rattle.vectors.specs.declared.Vector.{Vector}
+use Rattle.coords_vector.specs.declared.Vector.{Vector}
 use Rattle.face.specs.Faces.{Triangle, triangle, Face, TriangleLow, FaceLow, fan, quad, isThin, isTurned, facing, keptFrom, keptOf}
 use Rattle.lists.proofs.Loops.{either}
 

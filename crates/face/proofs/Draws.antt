@@ -11,7 +11,7 @@ use Rattle.lists.specs.Loops.{join, sumOf}
 use Rattle.lists.proofs.Lists.{sum-append}
 use Rattle.lists.proofs.Stores.{sets-append, records-behind}
 use Rattle.coords.specs.declared.Point.{Point}
-use Rattle.vectors.specs.declared.Vector.{Vector}
+use Rattle.coords_vector.specs.declared.Vector.{Vector}
 use Rattle.coords.specs.Buffers.{vertexRecord, vertexNumbers, normalRecord, normalNumbers}
 use Rattle.face.specs.declared.Tally.{Tally}
 use Rattle.face.specs.Faces.{Triangle, Face, Piece, thinIn, keptOf, faceNormal, nothing, behind, writeKept, writeFace, writeFaces}

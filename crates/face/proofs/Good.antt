@@ -10,7 +10,7 @@ use lib.Ieee.{Float}
 use Rattle.lists.specs.Loops.{join, sumOf}
 use Rattle.lists.specs.Each.{Each}
 use Rattle.coords.specs.declared.Point.{Point}
-use Rattle.vectors.specs.declared.Vector.{Vector}
+use Rattle.coords_vector.specs.declared.Vector.{Vector}
 use Rattle.coords.specs.Coords.{origin, noArea}
 use Rattle.face.specs.Faces.{TriangleLow, FaceLow, Triangle, triangle, Face, normal, isThin, isTurned, facing, keptFrom, keptOf, nothing, behind, numbered, writeKept, writeFace, writeFaces}
 use Rattle.lists.proofs.Lists.{each-append}

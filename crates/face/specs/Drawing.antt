@@ -8,11 +8,11 @@ use denote.Ref.{now}
 use lib.Ieee.{Float}
 use Rattle.lists.specs.Loops.{sumOf}
 use Rattle.lists.specs.Slices.{Slice}
-use Rattle.vectors.specs.declared.Vector.{Vector}
+use Rattle.coords_vector.specs.declared.Vector.{Vector}
 use Rattle.coords.specs.Buffers.{vertexNumbers, normalNumbers, verticesIn}
 use Rattle.face.specs.declared.Tally.{Tally}
 use Rattle.face.specs.Faces.{Face, thinIn, keptOf, writeFaces}
-use Rattle.triangles.specs.Triangles.{trianglesIn}
+use Rattle.face_triangle.specs.Triangles.{trianglesIn}
 
 abbrev pub tally : ℕ → ℕ → ℕ → Tally
 tally vertices kept thin = record { vertices = vertices; kept = kept; thin = thin }

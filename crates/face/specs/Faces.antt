@@ -8,10 +8,10 @@ use Rattle.lists.specs.Each.{Each}
 use Rattle.lists.specs.Loops.{list, join, countOf}
 use Rattle.float.specs.Number.{zerof}
 use Rattle.coords.specs.declared.Point.{Point}
-use Rattle.vectors.specs.declared.Vector.{Vector}
-use Rattle.vectors.specs.Vectors.{zeroV, unitZ, plus, less, dot, cross, norm, normalizeOr}
+use Rattle.coords_vector.specs.declared.Vector.{Vector}
+use Rattle.coords_vector.specs.Vectors.{zeroV, unitZ, plus, less, dot, cross, norm, normalizeOr}
 use Rattle.coords.specs.Coords.{origin, diff}
-pub use Rattle.triangles.specs.Triangles.{Triangle, triangle, TriangleLow}
+pub use Rattle.face_triangle.specs.Triangles.{Triangle, triangle, TriangleLow}
 
 -- `part` names the part of the object that the face belongs to: 1 walls and sides, 2 lid, 3 floor, 4 caps, 11 to 16 a box's faces
 pub record Face : Type 0 where

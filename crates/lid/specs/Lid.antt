@@ -7,7 +7,7 @@ use lib.Dec.{eqb}
 use lib.Ieee.{lt}
 use Rattle.lists.specs.Loops.{list, countOf}
 use Rattle.float.specs.Number.{zerof}
-use Rattle.triangles.specs.Triangles.{Triangle, triangle}
+use Rattle.face_triangle.specs.Triangles.{Triangle, triangle}
 use Rattle.lid.specs.declared.Flat.{Flat}
 use Rattle.lid.specs.Log.{Entry, entry, isMark, leftOver, Logged}
 use Rattle.lid.specs.Rings.{turnOf, tooSmall, turnOuter, ringsFrom, holesFrom, skippedFrom, inOrder}

@@ -7,8 +7,8 @@ use lib.Seq.{sets}
 use denote.Ref.{now}
 use Rattle.lists.specs.Loops.{join, sumOf}
 use Rattle.lists.specs.Slices.{Slice}
-use Rattle.triangles.specs.Triangles.{Triangle}
-pub use Rattle.triangles.specs.Triangles.{triangleRecord}
+use Rattle.face_triangle.specs.Triangles.{Triangle}
+pub use Rattle.face_triangle.specs.Triangles.{triangleRecord}
 use Rattle.lid.specs.declared.LidCounts.{LidCounts}
 use Rattle.lid.specs.Log.{Entry, logNumbers, entryWidth}
 use Rattle.lid.specs.Lid.{Lid}

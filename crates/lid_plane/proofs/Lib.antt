@@ -1,1 +1,3 @@
-pub mod AreaLaws
+pub mod Computes
+pub mod Flats
+pub mod Units

@@ -5,7 +5,7 @@ use lib.IntN.{pos}
 use lib.Ieee.{Float, fin, binary32, toBits}
 use Prim.Native.Nat.{ℕ}
 use mathlib.Core.List.{List, [], _∷_}
-use Rattle.vectors.specs.declared.Vector.{Vector}
+use Rattle.coords_vector.specs.declared.Vector.{Vector}
 use Rattle.object.specs.declared.Orientation.{Orientation}
 use Rattle.object.specs.declared.Pair.{Pair}
 use Rattle.object.specs.Object.{frame}

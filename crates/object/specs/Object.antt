@@ -5,8 +5,8 @@ use mathlib.Core.List.{List}
 use lib.Ieee.{Float, neg}
 use Rattle.float.specs.Number.{_+d_, _-d_, _*d_, narrow}
 use Rattle.coords.specs.declared.Point.{Point}
-use Rattle.vectors.specs.declared.Vector.{Vector}
-use Rattle.vectors.specs.Vectors.{vector}
+use Rattle.coords_vector.specs.declared.Vector.{Vector}
+use Rattle.coords_vector.specs.Vectors.{vector}
 use Rattle.object.specs.declared.Corner.{Corner}
 use Rattle.object.specs.declared.Extent.{Extent}
 use Rattle.object.specs.declared.Section.{Section}

@@ -1,18 +1,18 @@
 // The functions that C calls, with their answers in numbers.
 ghost use mathlib.Core.Path.{_≡_};
-ghost use Rattle.validation.specs.Numbers.{validationNumbers};
-ghost use Rattle.validation.specs.Validate.{validate};
-ghost use Rattle.scene_mesh.specs.PerBuffer.{entering, leaving};
-ghost use Rattle.scene_mesh.specs.Operations.{measure, build};
-ghost use Rattle.answers.specs.Answers.{answerFrom};
-use answers::Answer;
-use validation::Judgement;
+ghost use Rattle.validate.specs.Numbers.{validationNumbers};
+ghost use Rattle.validate.specs.Validate.{validate};
+ghost use Rattle.mesh.specs.PerBuffer.{entering, leaving};
+ghost use Rattle.mesh.specs.Operations.{measure, build};
+ghost use Rattle.mesh_answer.specs.Answers.{answerFrom};
+use mesh_answer::Answer;
+use validate::Judgement;
 
 #[no_mangle]
 pub extern "C" fn object_mesh_measure(scene: &[u8]) -> Answer
     ensures { λ r. ⌜ answerFrom r ≡ measure (now (scene .entry)) ⌝ }
 {
-    measure::measure(scene).numbers()
+    mesh_measure::measure(scene).numbers()
 }
 
 #[no_mangle]
@@ -29,12 +29,12 @@ pub extern "C" fn object_mesh_build(
     ensures written { λ r. ⌜ leaving vertices normals indices spans account log
         ≡ build (now (scene .entry)) (entering vertices normals indices spans account log) .buffers ⌝ }
 {
-    build::build(scene, vertices, normals, indices, spans, account, log).numbers()
+    mesh_build::build(scene, vertices, normals, indices, spans, account, log).numbers()
 }
 
 #[no_mangle]
 pub extern "C" fn object_mesh_validate(vertices: &[f32], indices: &[u32]) -> Judgement
     ensures { λ r. ⌜ r ≡ validationNumbers (validate (now (vertices .entry)) (now (indices .entry))) ⌝ }
 {
-    mesh::validate(vertices, indices).numbers()
+    validate_mesh::validate(vertices, indices).numbers()
 }

@@ -8,6 +8,6 @@ fn main() {
     let mut scene = [0u8; 4097];
     let n = io::read_full(STDIN_FILENO, &mut scene);
     let mut text = [0u8; 25743];
-    let m = quoting::quote(&scene[..n], &mut text);
+    let m = quote_write::quote(&scene[..n], &mut text);
     io::write_all(STDOUT_FILENO, &text[..m]);
 }

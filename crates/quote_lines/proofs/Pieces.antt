@@ -8,10 +8,10 @@ use native.Mathlib.Omega.{arith}
 use lib.Dec.{lit≤}
 use lib.ListN.{length, getD, set, drop, length-append, drop-of-length-le}
 use lib.Seq.{drop-cons}
-use Rattle.decimals.specs.Decimals.{decimal}
-use Rattle.decimals.specs.Texts.{Room, Wrote}
-use Rattle.decimals.proofs.Digits.{size-most}
-use Rattle.decimals.proofs.Texts.{wrote-byte, then, same-length, Writing, writing-start, writing-next, writing-end}
+use Rattle.decimal.specs.Decimals.{decimal}
+use Rattle.decimal.specs.Texts.{Room, Wrote}
+use Rattle.decimal.proofs.Digits.{size-most}
+use Rattle.decimal.proofs.Texts.{wrote-byte, then, same-length, Writing, writing-start, writing-next, writing-end}
 
 -- ---- a word, byte by byte
 

@@ -2,9 +2,9 @@
 use Prim.Native.Nat.{ℕ}
 use mathlib.Core.Bool.{Bool, true, false, cond}
 use mathlib.Core.List.{List, _++_}
-use Rattle.validation.specs.declared.Validation.{Validation}
-use Rattle.validation.specs.declared.Validation.the-variants.{Judged, Refused}
-use Rattle.validation.specs.declared.Verdict.the-variants.{Ok, Empty, NonFiniteVertex, IndexOutOfRange, DegenerateTriangle}
+use Rattle.validate.specs.declared.Validation.{Validation}
+use Rattle.validate.specs.declared.Validation.the-variants.{Judged, Refused}
+use Rattle.validate.specs.declared.Verdict.the-variants.{Ok, Empty, NonFiniteVertex, IndexOutOfRange, DegenerateTriangle}
 use Rattle.quote_lines.specs.Words.{ascii, field}
 
 -- a refusal: only its number

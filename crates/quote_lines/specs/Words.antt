@@ -3,7 +3,7 @@ use Prim.Native.Nat.{ℕ}
 use Prim.Native.Char.{code}
 use Prim.Native.String.{String, [] as none, _∷_ as _then_}
 use mathlib.Core.List.{List, [], _∷_, _++_}
-use Rattle.decimals.specs.Decimals.{decimal}
+use Rattle.decimal.specs.Decimals.{decimal}
 
 -- a byte for each character, which is in ASCII
 abbrev pub ascii : String → List ℕ

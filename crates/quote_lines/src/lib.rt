@@ -4,12 +4,12 @@ ghost use mathlib.Core.Path.{_≡_};
 ghost use mathlib.Core.List.{_++_};
 ghost use Prim.Native.Nat.{_+_, _≤_};
 ghost use lib.ListN.{length};
-ghost use Rattle.decimals.specs.Decimals.{decimal};
-ghost use Rattle.decimals.specs.Texts.{Room, Wrote};
+ghost use Rattle.decimal.specs.Decimals.{decimal};
+ghost use Rattle.decimal.specs.Texts.{Room, Wrote};
 ghost use Rattle.quote_lines.specs.Lines.{refusedLine, accountLine, countsLine, isOk, verdictLine};
-use decimals::put_decimal;
-use validation::Validation;
-use validation::Verdict;
+use decimal::put_decimal;
+use validate::Validation;
+use validate::Verdict;
 
 fn put_word(text: &mut [u8], at: usize, word: &[u8]) -> usize
     requires { ⌜ Room (now text) at (now word) ⌝ }

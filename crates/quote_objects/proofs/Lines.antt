@@ -14,9 +14,9 @@ use Rattle.scene.specs.Scene.{scene, trailer}
 use Rattle.scene.specs.Answers.{objectsOf}
 use Rattle.scene.specs.Headers.{headerAt, objectOf}
 use Rattle.scene.proofs.Walk.{Walking, walk-object, walk-next, walk-body, walk-inside, AcceptedAs, accepted-scene, trailer-inside}
-use Rattle.scene_mesh.specs.Mesh.{accountOf, accountsOf, accountRecord, accountNumbers}
-use Rattle.decimals.specs.Texts.{Wrote}
-use Rattle.decimals.proofs.Texts.{Writing, writing-start, writing-next, writing-end, wrote-as}
+use Rattle.mesh.specs.Mesh.{accountOf, accountsOf, accountRecord, accountNumbers}
+use Rattle.decimal.specs.Texts.{Wrote}
+use Rattle.decimal.proofs.Texts.{Writing, writing-start, writing-next, writing-end, wrote-as}
 use Rattle.quote_lines.specs.Lines.{accountLine}
 use Rattle.quote_text.specs.Quote.{objectLine}
 use Rattle.quote_objects.specs.Accounts.{Accounts, Priced}

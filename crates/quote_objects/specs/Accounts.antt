@@ -7,7 +7,7 @@ use Rattle.float.specs.Number.{minArea}
 use Rattle.object.specs.Object.{Object}
 use Rattle.scene.specs.Scene.{scene, accepted}
 use Rattle.scene.specs.Answers.{objectsOf}
-use Rattle.scene_mesh.specs.Mesh.{accountsOf, accountNumbers}
+use Rattle.mesh.specs.Mesh.{accountsOf, accountNumbers}
 
 -- numbers that begin with the account of the objects
 pub record Accounts (os : List Object) (numbers : List ℕ) : Type 0 where

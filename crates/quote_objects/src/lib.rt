@@ -4,12 +4,12 @@ ghost use lib.ListN.{length};
 ghost use Rattle.lists.specs.Loops.{join};
 ghost use Rattle.scene.specs.Scene.{scene};
 ghost use Rattle.scene.specs.Answers.{objectsOf};
-ghost use Rattle.decimals.specs.Texts.{Wrote};
+ghost use Rattle.decimal.specs.Texts.{Wrote};
 ghost use Rattle.quote_text.specs.Quote.{objectLine};
 ghost use Rattle.quote_objects.specs.Accounts.{Priced};
-use headers::header_at;
+use mesh::ACCOUNT_WIDTH;
 use quote_lines::put_object;
-use scene_mesh::ACCOUNT_WIDTH;
+use scene_header::header_at;
 
 // A line for each of the n objects.
 pub fn put_objects(text: &mut [u8], s: &[u8], account: &[u32], n: usize) -> usize

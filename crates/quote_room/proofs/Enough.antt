@@ -7,11 +7,11 @@ use lib.ListN.{length}
 use Rattle.float.specs.Number.{minArea}
 use Rattle.object.specs.Object.{Object}
 use Rattle.scene.specs.Scene.{Scene, refused, accepted, scene}
-use Rattle.scene_mesh.specs.Operations.{refusedWith, output, countsOf, done, measureScene, measure}
-use Rattle.scene_mesh.specs.Demand3.{LongEnough}
-use Rattle.scene_mesh.proofs.Comes.{scene-comes}
-use Rattle.scene_mesh.proofs.MeshSizes.{output-counts}
-use Rattle.scene_mesh.proofs.Rooms.{numbers-within, none-needed}
+use Rattle.mesh.specs.Operations.{refusedWith, output, countsOf, done, measureScene, measure}
+use Rattle.mesh.specs.Demand3.{LongEnough}
+use Rattle.mesh.proofs.Comes.{scene-comes}
+use Rattle.mesh.proofs.MeshSizes.{output-counts}
+use Rattle.mesh.proofs.Rooms.{numbers-within, none-needed}
 use Rattle.quote_room.specs.Room.{objectsMost, roomFor}
 
 pub few-objects : (s : List ℕ) (os : List Object) (bytes : ℕ) → scene s ≡ accepted os → length s ≤ bytes → length os ≤ objectsMost bytes

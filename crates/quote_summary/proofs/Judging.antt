@@ -10,16 +10,16 @@ use Rattle.lists.proofs.Buffers.{take-over}
 use Rattle.float.specs.Number.{zerof, minArea}
 use Rattle.object.specs.Object.{Object}
 use Rattle.scene.specs.Scene.{Scene, refused, accepted, scene}
-use Rattle.validation.specs.declared.Validation.{Validation}
-use Rattle.validation.specs.Validate.{validate}
-use Rattle.scene_mesh.specs.Mesh.{Mesh, meshOf, accountsOf, accountNumbers}
-use Rattle.scene_mesh.specs.PerBuffer.{Counts, Buffers, lent}
-use Rattle.scene_mesh.specs.Operations.{Answer, Built, refusedWith, output, countsOf, done, measureScene, measure, overlay, tooShort, buildOutput, buildScene, build}
-use Rattle.scene_mesh.specs.Demand3.{LongEnough}
-use Rattle.scene_mesh.proofs.Rooms.{long-enough}
-use Rattle.scene_mesh.proofs.MeshSizes.{output-counts}
-use Rattle.answers.specs.declared.Answer.{Answer as CAnswer}
-use Rattle.answers.specs.Answers.{builtWith, answerFrom, BuiltAndJudged, judged, buildAndValidate}
+use Rattle.validate.specs.declared.Validation.{Validation}
+use Rattle.validate.specs.Validate.{validate}
+use Rattle.mesh.specs.Mesh.{Mesh, meshOf, accountsOf, accountNumbers}
+use Rattle.mesh.specs.PerBuffer.{Counts, Buffers, lent}
+use Rattle.mesh.specs.Operations.{Answer, Built, refusedWith, output, countsOf, done, measureScene, measure, overlay, tooShort, buildOutput, buildScene, build}
+use Rattle.mesh.specs.Demand3.{LongEnough}
+use Rattle.mesh.proofs.Rooms.{long-enough}
+use Rattle.mesh.proofs.MeshSizes.{output-counts}
+use Rattle.mesh_answer.specs.declared.Answer.{Answer as CAnswer}
+use Rattle.mesh_answer.specs.Answers.{builtWith, answerFrom, BuiltAndJudged, judged, buildAndValidate}
 use Rattle.quote_room.specs.Room.{objectsMost, roomFor}
 use Rattle.quote_room.proofs.Enough.{enough}
 use Rattle.quote_lines.specs.Lines.{isOk}

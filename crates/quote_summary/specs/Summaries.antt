@@ -6,9 +6,9 @@ use lib.ListN.{length}
 use Rattle.float.specs.Number.{minArea}
 use Rattle.object.specs.Object.{Object}
 use Rattle.scene.specs.Scene.{scene, accepted}
-use Rattle.validation.specs.declared.Validation.{Validation}
-use Rattle.scene_mesh.specs.Mesh.{meshOf, spanWidth, accountWidth}
-use Rattle.scene_mesh.specs.Operations.{Answer, measure}
+use Rattle.validate.specs.declared.Validation.{Validation}
+use Rattle.mesh.specs.Mesh.{meshOf, spanWidth, accountWidth}
+use Rattle.mesh.specs.Operations.{Answer, measure}
 use Rattle.quote_lines.specs.Lines.{isOk}
 use Rattle.quote_text.specs.Quote.{validation}
 use Rattle.quote_objects.specs.Accounts.{Accounts}

@@ -3,14 +3,14 @@
 ghost use mathlib.Core.Path.{_≡_};
 ghost use Prim.Native.Nat.{_≤_};
 ghost use lib.ListN.{length};
-ghost use Rattle.answers.specs.Answers.{answerFrom};
+ghost use Rattle.mesh_answer.specs.Answers.{answerFrom};
 ghost use Rattle.quote_summary.specs.Summaries.{summaryOf, Summed};
-use answers::Answer;
-use build_and_validate::build_and_validate;
+use mesh::ACCOUNT_WIDTH;
+use mesh::SPAN_WIDTH;
+use mesh_answer::Answer;
+use mesh_build_and_validate::build_and_validate;
 use quote_lines::is_ok;
-use scene_mesh::ACCOUNT_WIDTH;
-use scene_mesh::SPAN_WIDTH;
-use validation::Validation;
+use validate::Validation;
 
 // The account of every scene of at most 4,096 bytes.
 pub type Account = [u32; 1488];

@@ -4,8 +4,8 @@ use mathlib.Core.Path.{_≡_, refl}
 use Prim.Native.Nat.{ℕ}
 use mathlib.Core.List.{List, [], _∷_}
 use lib.ListN.{replicate}
-use Rattle.decimals.specs.Decimals.{digits, decimal}
-use Rattle.scene_mesh.proofs.Computes.{all}
+use Rattle.decimal.specs.Decimals.{digits, decimal}
+use Rattle.mesh.proofs.Computes.{all}
 use Rattle.quote_lines.specs.Words.{ascii}
 use Rattle.quote_lines.specs.Lines.{refusedLine, accountLine, countsLine, verdictLine}
 use Rattle.quote_text.specs.Quote.{objectLine, meshLine, validation, objectsText, sceneText, quoteText}

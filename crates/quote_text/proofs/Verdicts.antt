@@ -10,12 +10,12 @@ use Rattle.coords.proofs.Turned.{min-above}
 use Rattle.object.specs.Object.{Object}
 use Rattle.scene.specs.Scene.{scene, accepted}
 use Rattle.scene.proofs.Accepted.{accepted-near}
-use Rattle.validation.specs.declared.Validation.the-variants.{Judged}
-use Rattle.validation.specs.declared.Verdict.the-variants.{Ok, Empty}
-use Rattle.validation.specs.Validate.{validate}
-use Rattle.scene_mesh.specs.Mesh.{keptBy, meshOf}
-use Rattle.scene_mesh.specs.Operations.{output}
-use Rattle.scene_mesh.proofs.Demand3.{written-holds}
+use Rattle.validate.specs.declared.Validation.the-variants.{Judged}
+use Rattle.validate.specs.declared.Verdict.the-variants.{Ok, Empty}
+use Rattle.validate.specs.Validate.{validate}
+use Rattle.mesh.specs.Mesh.{keptBy, meshOf}
+use Rattle.mesh.specs.Operations.{output}
+use Rattle.mesh.proofs.Demand3.{written-holds}
 use Rattle.quote_lines.specs.Words.{ascii}
 use Rattle.quote_lines.specs.Lines.{isOk, verdictLine}
 use Rattle.quote_text.specs.Quote.{validation}

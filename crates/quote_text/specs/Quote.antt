@@ -8,11 +8,11 @@ use Rattle.lists.specs.Loops.{join}
 use Rattle.float.specs.Number.{minArea}
 use Rattle.coords.specs.Buffers.{vertexNumbers}
 use Rattle.object.specs.Object.{Object}
-use Rattle.rows.specs.Rows.{numberOf}
+use Rattle.refusal.specs.Rows.{numberOf}
 use Rattle.scene.specs.Scene.{Scene, refused, accepted, scene}
-use Rattle.validation.specs.declared.Validation.{Validation}
-use Rattle.validation.specs.Validate.{validate}
-use Rattle.scene_mesh.specs.Mesh.{Mesh, accountOf, meshOf}
+use Rattle.validate.specs.declared.Validation.{Validation}
+use Rattle.validate.specs.Validate.{validate}
+use Rattle.mesh.specs.Mesh.{Mesh, accountOf, meshOf}
 use Rattle.quote_lines.specs.Lines.{refusedLine, accountLine, countsLine, isOk, verdictLine}
 
 -- an object: its id and the first three numbers of its account

@@ -14,9 +14,9 @@ use Rattle.object.specs.declared.Extent.{Extent}
 use Rattle.object.specs.declared.Extent.the-variants.{Unsized}
 use Rattle.object.specs.declared.Section.{Section}
 use Rattle.object.specs.Object.{Shape, sweep, roundSweep, Object}
-use Rattle.rows.specs.declared.Refusal.the-variants.{Length, Trailer, Start, Past, Kind, Counts, Numbers}
-use Rattle.fields.specs.Layout.{mostBytes, mostObjects, mostHoles, mostCorners, mostSections, cornerBytes, sectionBytes, positionBytes, orientationBytes, orientationFrom, sizesFrom}
-use Rattle.fields.specs.Fields.{u16At, u32At, f32At, f64At, boxAt, cylinderAt, pointAt, cornerAt, sectionAt, orientationAt, pairAt, cornersAt, sectionsAt, countsAt, holesAt, all32, all64}
+use Rattle.refusal.specs.declared.Refusal.the-variants.{Length, Trailer, Start, Past, Kind, Counts, Numbers}
+use Rattle.scene_field.specs.Layout.{mostBytes, mostObjects, mostHoles, mostCorners, mostSections, cornerBytes, sectionBytes, positionBytes, orientationBytes, orientationFrom, sizesFrom}
+use Rattle.scene_field.specs.Fields.{u16At, u32At, f32At, f64At, boxAt, cylinderAt, pointAt, cornerAt, sectionAt, orientationAt, pairAt, cornersAt, sectionsAt, countsAt, holesAt, all32, all64}
 use Rattle.scene.specs.Scene.{Record, bad, good, rest, solidAt, outlineCorners, outlineAt, sweepAt, kindAt, recordAt, Scene, refused, accepted, prepend, recordThen, recordsFrom, trailer, countAt, scene}
 use Rattle.lists.proofs.Loops.{either, unless}
 use Rattle.lists.proofs.Lists.{every-list, each-list}

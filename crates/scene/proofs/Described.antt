@@ -12,11 +12,11 @@ use Rattle.lists.proofs.Loops.{either, either-by}
 use Rattle.object.specs.declared.Extent.{Extent}
 use Rattle.object.specs.declared.Extent.the-variants.{Unsized}
 use Rattle.object.specs.Object.{Object, sweep, roundSweep}
-use Rattle.rows.specs.declared.Refusal.the-variants.{Past, Kind, Counts, Numbers}
+use Rattle.refusal.specs.declared.Refusal.the-variants.{Past, Kind, Counts, Numbers}
 use Rattle.scene.specs.declared.headers.Body.{Body}
 use Rattle.scene.specs.declared.headers.Body.the-variants.{Solid, Outline, Sweep}
-use Rattle.fields.specs.Layout.{mostHoles, mostCorners, mostSections, cornerBytes, sectionBytes, positionBytes, orientationBytes, sizesFrom}
-use Rattle.fields.specs.Fields.{u16At, u32At, boxAt, cylinderAt, countsAt, all32}
+use Rattle.scene_field.specs.Layout.{mostHoles, mostCorners, mostSections, cornerBytes, sectionBytes, positionBytes, orientationBytes, sizesFrom}
+use Rattle.scene_field.specs.Fields.{u16At, u32At, boxAt, cylinderAt, countsAt, all32}
 use Rattle.scene.specs.Scene.{Record, bad, good, rest, solidAt, outlineCorners, outlineOf, outlineAt, sweepAt, kindAt, recordAt}
 use Rattle.scene.specs.Headers.{solidFrom, cornerCount, outlineFrom, volumeSize, bodySize, bodyAt, shapeOf, objectOf, headerAt, Limits}
 

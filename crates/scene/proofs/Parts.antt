@@ -10,7 +10,7 @@ use Rattle.lists.specs.Loops.{list, join, sumOf}
 use Rattle.lists.proofs.Lists.{length-list, getD-list, list-same, list-append}
 use Rattle.object.specs.declared.Corner.{Corner}
 use Rattle.object.specs.declared.Section.{Section}
-use Rattle.fields.specs.Fields.{u16At, cornerAt, sectionAt, cornersAt, sectionsAt, countsAt, holesAt}
+use Rattle.scene_field.specs.Fields.{u16At, cornerAt, sectionAt, cornersAt, sectionsAt, countsAt, holesAt}
 
 module _ (s : List ℕ) where
   -- ---- corners

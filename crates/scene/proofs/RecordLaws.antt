@@ -11,13 +11,13 @@ use Rattle.lists.specs.Loops.{list, sumOf}
 use Rattle.object.specs.declared.Section.{Section}
 use Rattle.object.specs.declared.Extent.{Extent}
 use Rattle.object.specs.Object.{Shape}
-use Rattle.rows.specs.declared.Refusal.the-variants.{Past, Kind, Counts}
-use Rattle.fields.specs.Layout.{mostHoles, mostCorners, mostSections, positionBytes, orientationBytes}
-use Rattle.fields.specs.Fields.{u16At, u32At, countsAt}
+use Rattle.refusal.specs.declared.Refusal.the-variants.{Past, Kind, Counts}
+use Rattle.scene_field.specs.Layout.{mostHoles, mostCorners, mostSections, positionBytes, orientationBytes}
+use Rattle.scene_field.specs.Fields.{u16At, u32At, countsAt}
 use Rattle.scene.specs.Scene.{Record, bad, rest, solidAt, outlineCorners, outlineOf, outlineAt, sweepAt, kindAt, recordAt}
 use Rattle.scene.specs.declared.records.RecordEnd.{RecordEnd}
 use Rattle.scene.specs.Answers.{endOf}
-use Rattle.fields.proofs.Fields.{u16-past}
+use Rattle.scene_field.proofs.Fields.{u16-past}
 
 -- ---- n bytes from place i on, before e
 

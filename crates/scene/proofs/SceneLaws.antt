@@ -8,13 +8,13 @@ use mathlib.Core.List.{List}
 use lib.ListN.{length}
 use borrow.Author.Tests.{eq-eqb, ne-eqb, lt-ltb, le-ltb}
 use Rattle.object.specs.Object.{Object}
-use Rattle.rows.specs.declared.Refusal.{Refusal}
-use Rattle.rows.specs.declared.Refusal.the-variants.{Length, Trailer, Start}
+use Rattle.refusal.specs.declared.Refusal.{Refusal}
+use Rattle.refusal.specs.declared.Refusal.the-variants.{Length, Trailer, Start}
 use Rattle.scene.specs.declared.records.RecordEnd.the-variants.{Bad, At}
 use Rattle.scene.specs.declared.scenes.Checked.{Checked}
 use Rattle.scene.specs.declared.scenes.Checked.the-variants.{Refused, Accepted}
-use Rattle.fields.specs.Layout.{mostBytes, mostObjects}
-use Rattle.fields.specs.Fields.{u32At}
+use Rattle.scene_field.specs.Layout.{mostBytes, mostObjects}
+use Rattle.scene_field.specs.Fields.{u32At}
 use Rattle.scene.specs.Scene.{Record, bad, good, recordAt, Scene, refused, accepted, prepend, recordThen, recordsFrom, trailer, countAt, scene}
 use Rattle.scene.specs.Answers.{endOf, checkedOf}
 

@@ -13,11 +13,11 @@ use lib.Seq.{drop-drop}
 use lib.Dec.{ltb, eqb}
 use borrow.Author.Tests.{eqb-true, ltb-false}
 use Rattle.object.specs.Object.{Object}
-use Rattle.rows.specs.declared.Refusal.{Refusal}
-use Rattle.rows.specs.declared.Refusal.the-variants.{Length, Trailer, Start}
+use Rattle.refusal.specs.declared.Refusal.{Refusal}
+use Rattle.refusal.specs.declared.Refusal.the-variants.{Length, Trailer, Start}
 use Rattle.scene.specs.declared.scenes.Checked.the-variants.{Refused, Accepted}
-use Rattle.fields.specs.Layout.{mostBytes, mostObjects}
-use Rattle.fields.specs.Fields.{u32At}
+use Rattle.scene_field.specs.Layout.{mostBytes, mostObjects}
+use Rattle.scene_field.specs.Fields.{u32At}
 use Rattle.scene.specs.Scene.{Record, bad, good, recordAt, Scene, refused, accepted, prepend, recordThen, recordsFrom, trailer, countAt, scene}
 use Rattle.scene.specs.Answers.{checkedOf, objectsOf}
 use Rattle.scene.specs.Headers.{bodyAt, bodySize, objectOf, headerAt, Limits}

@@ -10,8 +10,8 @@ use Rattle.object.specs.declared.Extent.{Extent}
 use Rattle.object.specs.declared.Extent.the-variants.{Box, Cylinder, Unsized}
 use Rattle.object.specs.declared.Orientation.{Orientation}
 use Rattle.object.specs.Object.{Shape, solid, outline, sweep, roundSweep, Object}
-use Rattle.fields.specs.Layout.{mostHoles, mostCorners, mostSections, cornerBytes, sectionBytes, positionBytes, orientationBytes, orientationFrom, sizesFrom}
-use Rattle.fields.specs.Fields.{u16At, u32At, pointAt, orientationAt, boxAt, cylinderAt, cornersAt, sectionsAt, countsAt, holesAt}
+use Rattle.scene_field.specs.Layout.{mostHoles, mostCorners, mostSections, cornerBytes, sectionBytes, positionBytes, orientationBytes, orientationFrom, sizesFrom}
+use Rattle.scene_field.specs.Fields.{u16At, u32At, pointAt, orientationAt, boxAt, cylinderAt, cornersAt, sectionsAt, countsAt, holesAt}
 use Rattle.scene.specs.declared.headers.SolidAt.{SolidAt}
 use Rattle.scene.specs.declared.headers.Body.{Body}
 use Rattle.scene.specs.declared.headers.Body.the-variants.{Solid, Outline, Sweep}

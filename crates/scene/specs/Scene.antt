@@ -15,11 +15,11 @@ use Rattle.object.specs.declared.Extent.the-variants.{Unsized}
 use Rattle.object.specs.declared.Pair.{Pair}
 use Rattle.object.specs.declared.Section.{Section}
 use Rattle.object.specs.declared.Orientation.{Orientation}
-use Rattle.fields.specs.Layout.{mostBytes, mostObjects, mostHoles, mostCorners, mostSections, cornerBytes, sectionBytes, positionBytes, orientationBytes, orientationFrom, sizesFrom}
-use Rattle.fields.specs.Fields.{u16At, u32At, pointAt, orientationAt, boxAt, cylinderAt, cornersAt, sectionsAt, countsAt, holesAt, all32, all64}
+use Rattle.scene_field.specs.Layout.{mostBytes, mostObjects, mostHoles, mostCorners, mostSections, cornerBytes, sectionBytes, positionBytes, orientationBytes, orientationFrom, sizesFrom}
+use Rattle.scene_field.specs.Fields.{u16At, u32At, pointAt, orientationAt, boxAt, cylinderAt, cornersAt, sectionsAt, countsAt, holesAt, all32, all64}
 use Rattle.object.specs.Object.{Shape, solid, outline, sweep, roundSweep, Object}
-use Rattle.rows.specs.declared.Refusal.{Refusal}
-use Rattle.rows.specs.declared.Refusal.the-variants.{Length, Trailer, Start, Past, Kind, Counts, Numbers}
+use Rattle.refusal.specs.declared.Refusal.{Refusal}
+use Rattle.refusal.specs.declared.Refusal.the-variants.{Length, Trailer, Start, Past, Kind, Counts, Numbers}
 
 -- ---- one record
 

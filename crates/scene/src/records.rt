@@ -1,5 +1,5 @@
 // How the check of one record ends.
-use rows::Refusal;
+use refusal::Refusal;
 
 // Where a record ends, or by which row it is refused.
 pub enum RecordEnd {

@@ -1,5 +1,5 @@
 // How the check of a scene ends.
-use rows::Refusal;
+use refusal::Refusal;
 
 pub enum Checked {
     // By which row, and the object named.

@@ -1,6 +1,6 @@
 -- `quote_lines::put_field` meets its contract: its word and its number one behind the other. Assumes nothing.
 use native.Mathlib.Omega.{arith}
-use Rattle.decimals.proofs.Texts.{same-length as kept-length}
+use Rattle.decimal.proofs.Texts.{same-length as kept-length}
 use Rattle.quote_lines.proofs.Pieces.{ten-digits, field-written}
 use borrow.Author.Needs.{needs}
 use Rattle.quote_lines.proofs.put_field.Statement.{statement}

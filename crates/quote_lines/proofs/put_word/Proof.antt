@@ -2,7 +2,7 @@
 use Prim.Native.Nat.{_+_, _-_, _≤_}
 use native.Mathlib.Omega.{arith}
 use lib.ListN.{length, drop}
-use Rattle.decimals.proofs.Texts.{Writing}
+use Rattle.decimal.proofs.Texts.{Writing}
 use Rattle.quote_lines.proofs.Pieces.{word-start, word-next, word-end}
 use Rattle.quote_lines.proofs.put_word.Statement.{statement}
 use Rattle.quote_lines.proofs.put_word.Tie as tie

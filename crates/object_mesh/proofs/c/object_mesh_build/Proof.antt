@@ -1,7 +1,7 @@
 -- `object_mesh::c::object_mesh_build` meets its contract. Assumes nothing.
 use mathlib.Core.Path.{ap, _∙_}
 use borrow.Author.Needs.{needs}
-use Rattle.scene_mesh.specs.Operations.{Built}
+use Rattle.mesh.specs.Operations.{Built}
 use Rattle.object_mesh.proofs.c.object_mesh_build.Statement.{statement}
 use Rattle.object_mesh.proofs.c.object_mesh_build.Tie as tie
 

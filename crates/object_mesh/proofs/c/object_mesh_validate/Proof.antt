@@ -1,7 +1,7 @@
 -- `object_mesh::c::object_mesh_validate` meets its contract. Assumes nothing.
 use mathlib.Core.Path.{ap, _∙_}
 use borrow.Author.Needs.{needs}
-use Rattle.validation.specs.Numbers.{validationNumbers}
+use Rattle.validate.specs.Numbers.{validationNumbers}
 use Rattle.object_mesh.proofs.c.object_mesh_validate.Statement.{statement}
 use Rattle.object_mesh.proofs.c.object_mesh_validate.Tie as tie
 

@@ -1,3 +1,0 @@
-pub mod Computes
-pub mod Flats
-pub mod Units

@@ -1,1 +1,0 @@
-// The plane of a closed outline's lid, and the corners flattened onto it. Definitions only.

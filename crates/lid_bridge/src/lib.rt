@@ -1,0 +1,157 @@
+// How a hole is joined to the ring, as `bridge`.
+ghost use mathlib.Core.Path.{_≡_};
+ghost use Prim.Native.Nat.{_+_, _<_};
+ghost use lib.ListN.{length};
+ghost use Rattle.lists.specs.Loops.{first};
+ghost use Rattle.lid.specs.Rings.{flatsIn};
+ghost use Rattle.lid.specs.Bridges.{inside, slopeOf, seenAt, visible, sitsIn, isCopy, copyOf, bridge};
+ghost use Rattle.lid.specs.Steps.{rayTo};
+use lid::Bridged;
+use lid::CornerNumber;
+use lid::Flat;
+use lid::Hit;
+use lid::Ray;
+use lid::RingPlace;
+use lid::Seen;
+use lid_bridge_ray::first_hit;
+use lid_bridge_ray::rightmost;
+use lid_flat::flat_at;
+use lid_flat::flat_of;
+use lid_flat::turn;
+use lid_ring_corners::corners_at;
+use lid_ring_corners::number_at;
+use lists::Found;
+
+const MIN_POSITIVE: f32 = 1.17549435e-38;
+
+// Whether r lies in the triangle m, i, p, whose turn has the sign s.
+fn inside(m: Flat, i: Flat, p: Flat, s: f32, r: Flat) -> bool
+    ensures { λ q. ⌜ q ≡ inside m i p s r ⌝ }
+{
+    (turn(m, i, r) * s >= 0.0) & (turn(i, p, r) * s >= 0.0) & (turn(p, m, r) * s >= 0.0)
+}
+
+fn slope(m: Flat, r: Flat) -> f32
+    ensures { λ q. ⌜ q ≡ slopeOf m r ⌝ }
+{
+    float_sign::abs(r.v - m.v) / float_sign::max(r.u - m.u, MIN_POSITIVE)
+}
+
+// The shallowest slope so far, with the corner at one more place.
+fn seen_at(us: &[f32], vs: &[f32], ring: &[u32], ray: Ray, at: RingPlace, best: Seen) -> Seen
+    requires { ⌜ at .0 < length (now ring) ⌝ }
+    ensures { λ r. ⌜ r ≡ seenAt (flatsIn us vs) (now (ring .entry)) (ray .m) (ray .i) (ray .end .0) (ray .s) (at .0) best ⌝ }
+{
+    let k = at.0;
+    let c = ring[k];
+    let r = flat_at(us, vs, CornerNumber(c));
+    if (ray.s == 0.0) | (c == ray.end.0) | (r.u < ray.m.u) {
+        return best;
+    }
+    let p = flat_at(us, vs, ray.end);
+    if !inside(ray.m, ray.i, p, ray.s, r) {
+        return best;
+    }
+    let y = slope(ray.m, r);
+    if y < best.slope {
+        return Seen {
+            slope: y,
+            place: at,
+        };
+    }
+    best
+}
+
+// The ray from m that meets at i an edge whose rightmost end stands at `target`.
+fn ray_to(us: &[f32], vs: &[f32], ring: &[u32], m: Flat, i: Flat, target: RingPlace) -> Ray
+    ensures { λ r. ⌜ r ≡ rayTo (flatsIn us vs) (now (ring .entry)) m i (target .0) ⌝ }
+{
+    let end = number_at(ring, target);
+    let p = flat_at(us, vs, end);
+    let s = float_sign::signum(turn(m, i, p));
+    Ray { m, i, end, s }
+}
+
+// The place that m sees, where the ray meets at i an edge whose rightmost end stands at `target`.
+fn visible(us: &[f32], vs: &[f32], ring: &[u32], m: Flat, i: Flat, target: RingPlace) -> RingPlace
+    ensures { λ r. ⌜ r .0 ≡ visible (flatsIn us vs) (now (ring .entry)) m i (target .0) ⌝ }
+{
+    let ray = ray_to(us, vs, ring, m, i, target);
+    let mut best = Seen {
+        slope: f32::from_bits(0x7f80_0000),
+        place: target,
+    };
+    let mut k = 0;
+    while k < ring.len() {
+        best = seen_at(us, vs, ring, ray, RingPlace(k), best);
+        k += 1;
+    }
+    best.place
+}
+
+// Whether m sits in the corner at v between a and b.
+fn sits_in(m: Flat, a: Flat, v: Flat, b: Flat) -> bool
+    ensures { λ r. ⌜ r ≡ sitsIn m a v b ⌝ }
+{
+    let l1 = turn(a, v, m) > 0.0;
+    let l2 = turn(v, b, m) > 0.0;
+    if turn(a, v, b) >= 0.0 {
+        l1 & l2
+    } else {
+        l1 | l2
+    }
+}
+
+// Whether a place holds corner c and m sits in it there.
+fn is_copy(us: &[f32], vs: &[f32], ring: &[u32], m: Flat, c: CornerNumber, at: RingPlace) -> bool
+    requires { ⌜ at .0 < length (now ring) ⌝ }
+    ensures { λ r. ⌜ r ≡ isCopy (flatsIn us vs) (now (ring .entry)) m (c .0) (at .0) ⌝ }
+{
+    let t = corners_at(ring, at);
+    if t.b.0 != c.0 {
+        return false;
+    }
+    let a = flat_at(us, vs, t.a);
+    let v = flat_at(us, vs, c);
+    let b = flat_at(us, vs, t.c);
+    sits_in(m, a, v, b)
+}
+
+// The first such place.
+fn find_copy(us: &[f32], vs: &[f32], ring: &[u32], m: Flat, c: CornerNumber) -> Found
+    ensures { λ r. ⌜ r ≡ first (isCopy (flatsIn us vs) (now (ring .entry)) m (c .0)) (length (now (ring .entry))) 0 ⌝ }
+{
+    let mut k = 0;
+    while k < ring.len() {
+        if is_copy(us, vs, ring, m, c, RingPlace(k)) {
+            return Found::At(k);
+        }
+        k += 1;
+    }
+    Found::Nowhere
+}
+
+// Of the places that hold the corner at `target`, the first that m sits in, or `target` where there is none.
+fn copy_of(us: &[f32], vs: &[f32], ring: &[u32], m: Flat, target: RingPlace) -> RingPlace
+    ensures { λ r. ⌜ r .0 ≡ copyOf (flatsIn us vs) (now (ring .entry)) m (target .0) ⌝ }
+{
+    let c = number_at(ring, target);
+    match find_copy(us, vs, ring, m, c) {
+        Found::At(k) => RingPlace(k),
+        Found::Nowhere => target,
+    }
+}
+
+// Where a hole is joined to the ring.
+pub fn bridge(us: &[f32], vs: &[f32], ring: &[u32], hole: &[u32]) -> Bridged
+    requires { ⌜ 0 < length (now hole) ⌝ }
+    ensures { λ r. ⌜ r ≡ bridge (flatsIn us vs) (now (ring .entry)) (now (hole .entry)) ⌝ }
+{
+    let j = rightmost(us, vs, hole);
+    let m = flat_of(us, vs, hole, j);
+    let Hit::Edge(x, target) = first_hit(us, vs, ring, m) else {
+        return Bridged::Unjoined;
+    };
+    let seen = visible(us, vs, ring, m, Flat { u: x, v: m.v }, target);
+    Bridged::Joined(copy_of(us, vs, ring, m, seen), j)
+}

@@ -1,0 +1,140 @@
+// The search for an ear. How far a place's tests have come is noted, so that they go on from there, and a place that failed one is passed over.
+ghost use mathlib.Core.Path.{_≡_};
+ghost use Prim.Native.Nat.{_<_, _≤_};
+ghost use lib.ListN.{length};
+ghost use Rattle.lists.specs.Loops.{first};
+ghost use Rattle.lid.specs.Rings.{flats, flatsIn, corner, turn};
+ghost use Rattle.lid.specs.Clipping.{isEar};
+ghost use Rattle.lid.specs.Steps.{clearBy};
+ghost use Rattle.lid_clip_ear.specs.Ears.{Known, firstBlock, behind, told, tested, searched};
+use lid::CornerNumber;
+use lid::Corners;
+use lid::Flat;
+use lid::RingPlace;
+use lid::Tested;
+use lid_clip_notes::UNTURNED;
+use lid_clip_notes::failed;
+use lid_flat::flat_at;
+use lid_flat::turn;
+use lid_ring_corners::corners_at;
+use lists::Found;
+
+// Whether corner p, at q, does not stand in the way of the ear t, at a, b, c.
+fn clear(t: Corners, a: Flat, b: Flat, c: Flat, p: CornerNumber, q: Flat) -> bool
+    ensures { λ r. ⌜ r ≡ clearBy t a b c (p .0) q ⌝ }
+{
+    (p.0 == t.a.0)
+        | (p.0 == t.b.0)
+        | (p.0 == t.c.0)
+        | (turn(a, b, q) < 0.0)
+        | (turn(b, c, q) < 0.0)
+        | (turn(c, a, q) < 0.0)
+}
+
+// A number of corners of which both slices have the coordinates.
+fn common(us: &[f32], vs: &[f32]) -> usize
+    ensures { λ r. ⌜ (r ≤ length (now (us .entry))) × (r ≤ length (now (vs .entry))) ⌝ }
+{
+    if us.len() < vs.len() {
+        return us.len();
+    }
+    vs.len()
+}
+
+// `flat_at` by one test, for the corners below such a number.
+fn flat_in(us: &[f32], vs: &[f32], both: usize, c: CornerNumber) -> Flat
+    requires { ⌜ (both ≤ length (now us)) × (both ≤ length (now vs)) ⌝ }
+    ensures { λ r. ⌜ r ≡ corner (flatsIn us vs) (c .0) ⌝ }
+{
+    let i = c.0 as usize;
+    if i < both {
+        return Flat { u: us[i], v: vs[i] };
+    }
+    flat_at(us, vs, c)
+}
+
+// The first place from `from` on whose corner stands in the way.
+fn find_block(
+    us: &[f32],
+    vs: &[f32],
+    ring: &[u32],
+    t: Corners,
+    a: Flat,
+    b: Flat,
+    c: Flat,
+    from: usize,
+) -> Found
+    ensures { λ r. ⌜ r ≡ firstBlock (flatsIn us vs) t a b c (now (ring .entry)) from ⌝ }
+{
+    let both = common(us, vs);
+    let mut k = from;
+    while k < ring.len() {
+        let p = CornerNumber(ring[k]);
+        if !clear(t, a, b, c, p, flat_in(us, vs, both, p)) {
+            return Found::At(k);
+        }
+        k += 1;
+    }
+    Found::Nowhere
+}
+
+// What the corners from place `from` on tell of a place at a, b, c.
+fn test_corners(
+    us: &[f32],
+    vs: &[f32],
+    ring: &[u32],
+    t: Corners,
+    a: Flat,
+    b: Flat,
+    c: Flat,
+    from: usize,
+) -> Tested
+    ensures { λ r. ⌜ r ≡ told (behind (firstBlock (flatsIn us vs) t a b c (now (ring .entry)) from)) ⌝ }
+{
+    let Found::At(k) = find_block(us, vs, ring, t, a, b, c, from) else {
+        return Tested::Ear;
+    };
+    Tested::No(failed(k))
+}
+
+// What the tests of a place tell, from the first on that its note q says nothing of.
+fn test_place(us: &[f32], vs: &[f32], ring: &[u32], at: RingPlace, q: u32) -> Tested
+    requires { ⌜ at .0 < length (now ring) ⌝ }
+    ensures { λ r. ⌜ r ≡ tested (flatsIn us vs) (now (ring .entry)) (at .0) q ⌝ }
+{
+    let t = corners_at(ring, at);
+    let a = flat_at(us, vs, t.a);
+    let b = flat_at(us, vs, t.b);
+    let c = flat_at(us, vs, t.c);
+    if 1 < q {
+        return test_corners(us, vs, ring, t, a, b, c, (q / 2 - 1) as usize);
+    }
+    if turn(a, b, c) > 0.0 {
+        return test_corners(us, vs, ring, t, a, b, c, 0);
+    }
+    Tested::No(UNTURNED)
+}
+
+// The first place that is an ear. A place that is noted to fail a test is passed over, and what is found of the others is noted.
+pub fn find_ear(us: &[f32], vs: &[f32], ring: &[u32], why: &mut [u32]) -> Found
+    requires { ⌜ length (now why) ≡ length (now ring) ⌝ }
+    requires { ⌜ Known (flats (now us) (now vs)) (now ring) (now why) ⌝ }
+    ensures { λ r. ⌜ r ≡ first (isEar (flatsIn us vs) (now (ring .entry))) (length (now (ring .entry))) 0 ⌝ }
+    ensures { λ _. ⌜ now (why .exit) ≡ searched (flatsIn us vs) (now (ring .entry)) (length (now (ring .entry))) 0 (now (why .entry)) ⌝ }
+    ensures { λ _. ⌜ Known (flatsIn us vs) (now (ring .entry)) (now (why .exit)) ⌝ }
+{
+    let mut i = 0;
+    while i < ring.len() {
+        let q = why[i];
+        if q % 2 == 1 {
+            i += 1;
+            continue;
+        }
+        let Tested::No(w) = test_place(us, vs, ring, RingPlace(i), q) else {
+            return Found::At(i);
+        };
+        why[i] = w;
+        i += 1;
+    }
+    Found::Nowhere
+}

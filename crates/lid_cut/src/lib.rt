@@ -1,0 +1,77 @@
+// A ring clipped, and what is left of it written, as in `triangulate`.
+ghost use mathlib.Core.Path.{_≡_};
+ghost use mathlib.Core.List.{map};
+ghost use Prim.Native.Nat.{_+_, _<_, _≤_, _^_};
+ghost use lib.ListN.{length};
+ghost use Rattle.lid.specs.Log.{entry};
+ghost use Rattle.lid.specs.Rings.{flatsIn};
+ghost use Rattle.lid.specs.Lid.{lastTriangle};
+ghost use Rattle.lid.specs.Written.{logWith, trianglesWith, LidWritten};
+ghost use Rattle.lid_cut.specs.CutRing.{ringLid};
+use lid::CornerNumber;
+use lid::LidCounts;
+use lid_clip::clip;
+use lid_flat::flat_at;
+use lid_flat::turn;
+use lid_log::put_entry;
+use lid_log::put_triangle;
+
+// Writes an entry for each corner left, from entry n of the log on.
+fn put_left(ring: &[u32], log: &mut [u32], n: u32)
+    requires { ⌜ n + length (now ring) < 2 ^ 32 ⌝ }
+    ensures { λ _. ⌜ now (log .exit) ≡ logWith (now (log .entry)) n (map (λ a. entry 3 a 0 0) (now (ring .entry))) ⌝ }
+{
+    let mut k = 0;
+    let mut entries = n;
+    while k < ring.len() {
+        put_entry(log, entries, 3, ring[k], 0, 0);
+        entries += 1;
+        k += 1;
+    }
+}
+
+// Writes the triangle of the corners left, if they are three that turn left. The result is how many triangles there then are.
+fn put_last(us: &[f32], vs: &[f32], ring: &[u32], triangles: &mut [u32], count: u32) -> u32
+    requires { ⌜ count + 1 < 2 ^ 32 ⌝ }
+    ensures { λ r. ⌜ r ≡ count + length (lastTriangle (flatsIn us vs) (now (ring .entry))) ⌝ }
+    ensures { λ _. ⌜ now (triangles .exit) ≡ trianglesWith (now (triangles .entry)) count (lastTriangle (flatsIn us vs) (now (ring .entry))) ⌝ }
+{
+    if ring.len() != 3 {
+        return count;
+    }
+    let a = ring[0];
+    let b = ring[1];
+    let c = ring[2];
+    let u = flat_at(us, vs, CornerNumber(a));
+    let v = flat_at(us, vs, CornerNumber(b));
+    let w = flat_at(us, vs, CornerNumber(c));
+    if turn(u, v, w) > 0.0 {
+        put_triangle(triangles, count, a, b, c);
+        return count + 1;
+    }
+    count
+}
+
+// Clips a ring, with room for a note per place, from entry n of the log on, and writes what is left.
+pub fn cut_ring(
+    us: &[f32],
+    vs: &[f32],
+    ring: &mut [u32],
+    why: &mut [u32],
+    log: &mut [u32],
+    n: u32,
+    triangles: &mut [u32],
+) -> LidCounts
+    requires { ⌜ n + length (now ring) + 1 < 2 ^ 32 ⌝ }
+    requires { ⌜ length (now ring) ≤ length (now why) ⌝ }
+    ensures { λ r. ⌜ LidWritten (ringLid (flatsIn us vs) (now (ring .entry))) log n triangles r ⌝ }
+{
+    let c = clip(us, vs, ring, why, log, n, triangles);
+    let left = c.left;
+    put_left(&ring[..left], log, c.entries);
+    let count = put_last(us, vs, &ring[..left], triangles, c.triangles);
+    LidCounts {
+        entries: c.entries + left as u32,
+        triangles: count,
+    }
+}

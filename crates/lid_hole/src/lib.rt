@@ -1,0 +1,43 @@
+// A hole of an outline: where its corners start, and its corners, turned, with whether it is too small.
+ghost use mathlib.Core.Path.{_≡_};
+ghost use Prim.Native.Nat.{_<_, _≤_, _^_};
+ghost use lib.ListN.{length, getD, take};
+ghost use Rattle.lid.specs.Rings.{flatsIn, tooSmall};
+ghost use Rattle.lid.specs.Written.{cornerTotal};
+ghost use Rattle.lid_hole.specs.Holes.{startOf, holeCorners, holeRing};
+use lid_ring::write_ring;
+
+// The number of hole g's first corner; past the last hole, how many corners there are.
+pub fn hole_start(outer: u32, counts: &[u32], g: usize) -> u32
+    requires { ⌜ g ≤ length (now counts) ⌝ }
+    requires { ⌜ cornerTotal outer (now counts) < 2 ^ 32 ⌝ }
+    ensures { λ r. ⌜ r ≡ startOf outer (now (counts .entry)) g ⌝ }
+{
+    let mut start = outer;
+    let mut k = 0;
+    while k < g {
+        start += counts[k];
+        k += 1;
+    }
+    start
+}
+
+// Writes hole g, turned, to the first places of `hole`. Says whether it is too small.
+pub fn write_hole(
+    us: &[f32],
+    vs: &[f32],
+    outer: u32,
+    counts: &[u32],
+    hole: &mut [u32],
+    g: usize,
+) -> bool
+    requires { ⌜ g < length (now counts) ⌝ }
+    requires { ⌜ cornerTotal outer (now counts) < 2 ^ 32 ⌝ }
+    requires { ⌜ getD (now counts) g 0 ≤ length (now hole) ⌝ }
+    ensures { λ r. ⌜ r ≡ tooSmall (flatsIn us vs) (holeCorners outer (now (counts .entry)) g) ⌝ }
+    ensures { λ _. ⌜ take (getD (now (counts .entry)) g 0) (now (hole .exit)) ≡ holeRing (flatsIn us vs) outer (now (counts .entry)) g ⌝ }
+{
+    let h = counts[g] as usize;
+    let from = hole_start(outer, counts, g);
+    write_ring(us, vs, &mut hole[..h], from, false)
+}

@@ -1,0 +1,27 @@
+-- `lid_join::join_hole` meets its contract. Assumes nothing.
+use mathlib.Core.Path.{sym}
+use Prim.Native.Nat.{_-_}
+use native.Mathlib.Omega.{arith}
+use lib.ListN.{getD}
+use lib.Seq.{length-take-le}
+use borrow.Author.Needs.{needs}
+use Rattle.lid_join.proofs.join_hole.Statement.{statement}
+use Rattle.lid_join.proofs.join_hole.Tie as tie
+use denote.Ref.{now}
+
+slice-aggregate-join : tie.Need-slice-aggregate-join
+slice-aggregate-join c = sym (length-take-le _ _ (omega arith))
+
+join-requires : tie.Need-join-requires
+join-requires c κs =
+    let a = c .before .before .before .before .before .before .before .before .before .before .before .before .before .before .args in
+    omega (arith, length-take-le (getD (now (a .counts)) (a .g) 0) (c .before .before .before .before .before .before .write-hole .last .1 .1 .1 .1 .0) (omega arith))
+
+returns : tie.Need-returns
+returns c = rw (c .before .before .before .before .before .before .before .before .before .before .before .write-hole .ensures .1) at (c .before .before .before .before .join .ensures)
+
+pub join-hole-spec : {M : Type 1} → statement M
+join-hole-spec =
+    tie.close
+    (tie.spec (λ c κs. search needs) (λ c. search needs) (λ c. search needs) (λ c. search needs) (λ c. search needs) slice-aggregate-join
+    join-requires (λ c. search needs) (λ c. search needs) (λ c. search needs) returns)

@@ -1,0 +1,105 @@
+// Holes joined to the ring, one after the other.
+ghost use Prim.Native.Nat.{_+_, _<_, _≤_, _^_};
+ghost use lib.ListN.{length, getD};
+ghost use Rattle.lists.specs.Each.{Each};
+ghost use Rattle.lid.specs.Rings.{flatsIn};
+ghost use Rattle.lid.specs.Written.{cornerTotal};
+ghost use Rattle.lid_hole.specs.Holes.{holeRing, holesNumbered, Joinable};
+ghost use Rattle.lid_join.specs.Joined.{HoleJoined, HolesJoined, placesJoined};
+use lid::Bridged;
+use lid_bridge::bridge;
+use lid_hole::write_hole;
+use lid_log::put_entry;
+use lid_splice::splice;
+
+// Joins a hole to the ring of m places. The result is how many places the ring then has.
+fn join(
+    us: &[f32],
+    vs: &[f32],
+    ring: &mut [u32],
+    m: usize,
+    hole: &[u32],
+    log: &mut [u32],
+    n: u32,
+    g: u32,
+) -> usize
+    requires { ⌜ (0 < length (now hole)) × (m + length (now hole) + 2 ≤ length (now ring)) × (length (now ring) < 2 ^ 32) ⌝ }
+    ensures { λ r. ⌜ HoleJoined (flatsIn us vs) (now (hole .entry)) g ring m log n r ⌝ }
+{
+    match bridge(us, vs, &ring[..m], hole) {
+        Bridged::Joined(t, j) => {
+            put_entry(log, n, 4, g, t.0 as u32, j.0 as u32);
+            let e = m + hole.len() + 2;
+            splice(&mut ring[..e], t, hole, j);
+            e
+        }
+        Bridged::Unjoined => {
+            put_entry(log, n, 5, g, 0, 0);
+            m
+        }
+    }
+}
+
+// Joins hole g, whose corners are first written to `hole`.
+fn join_hole(
+    us: &[f32],
+    vs: &[f32],
+    outer: u32,
+    counts: &[u32],
+    ring: &mut [u32],
+    m: usize,
+    hole: &mut [u32],
+    log: &mut [u32],
+    n: u32,
+    g: u32,
+) -> usize
+    requires { ⌜ cornerTotal outer (now counts) < 2 ^ 32 ⌝ }
+    requires { ⌜ Joinable (now counts) (length (now hole)) g ⌝ }
+    requires { ⌜ (m + getD (now counts) g 0 + 2 ≤ length (now ring)) × (length (now ring) < 2 ^ 32) ⌝ }
+    ensures { λ r. ⌜ HoleJoined (flatsIn us vs) (holeRing (flatsIn us vs) outer (now (counts .entry)) g) g ring m log n r ⌝ }
+{
+    let k = g as usize;
+    write_hole(us, vs, outer, counts, hole, k);
+    let h = counts[k] as usize;
+    join(us, vs, ring, m, &hole[..h], log, n, g)
+}
+
+// Joins the holes of an order to the ring of m places, from entry n of the log on. The result is how many places the ring then has.
+pub fn join_holes(
+    us: &[f32],
+    vs: &[f32],
+    outer: u32,
+    counts: &[u32],
+    order: &[u32],
+    ring: &mut [u32],
+    m: usize,
+    hole: &mut [u32],
+    log: &mut [u32],
+    n: u32,
+) -> usize
+    requires { ⌜ cornerTotal outer (now counts) < 2 ^ 32 ⌝ }
+    requires { ⌜ Each (Joinable (now counts) (length (now hole))) (now order) ⌝ }
+    requires { ⌜ (m + placesJoined (now counts) (now order) ≤ length (now ring)) × (length (now ring) < 2 ^ 32) × (n + length (now order) < 2 ^ 32) ⌝ }
+    ensures { λ r. ⌜ HolesJoined (flatsIn us vs) (holesNumbered (flatsIn us vs) outer (now (counts .entry)) (now (order .entry))) ring m log n r ⌝ }
+{
+    let mut places = m;
+    let mut entries = n;
+    let mut p = 0;
+    while p < order.len() {
+        places = join_hole(
+            us,
+            vs,
+            outer,
+            counts,
+            ring,
+            places,
+            hole,
+            log,
+            entries,
+            order[p],
+        );
+        entries += 1;
+        p += 1;
+    }
+    places
+}

@@ -1,0 +1,25 @@
+-- To compute with this crate's definitions, name `computes` on an `unfolding` line: it stands for all of them, and for the operations of lib.Ieee that they use. `all` stands for those of the crates below too.
+use lib.Ieee.{ofInt, toBits}
+use Rattle.mesh.specs.Mesh.{keptBy, thinBy, accountOf, pieceOf, spanOf, addPiece, meshFrom, meshOf, accountsOf, logsOf, spanNumbers, accountNumbers, spansIn, accountsIn}
+use Rattle.mesh.specs.Operations.{noCounts, refusedWith, output, countsOf, done, measureScene, measure, tooShort, overlay, buildOutput, buildScene, build}
+use Rattle.mesh.specs.Demand3.{keptCorners, indicesIn, measured}
+use Rattle.mesh.specs.Samples.{bytesOf, f32Bytes, head, onePair, solidBytes, solidAtX, cornerBytes, outlineBytes, thinBytes, offsetsFrom, sceneBytes, same, objectsIn, filled, wordsOf, atAll, sameWords, sameCounts}
+use Rattle.lists.proofs.Computes.{computes as lists-computes}
+use Rattle.float.proofs.Computes.{computes as float-computes}
+use Rattle.coords.proofs.Computes.{computes as coords-computes}
+use Rattle.angle_circle.proofs.Computes.{computes as circle-computes}
+use Rattle.object.proofs.Computes.{computes as object-computes}
+use Rattle.scene.proofs.Computes.{computes as scene-computes}
+use Rattle.face.proofs.Computes.{computes as face-computes}
+use Rattle.lid.proofs.Computes.{computes as lid-computes}
+use Rattle.lid_plane.proofs.Computes.{computes as flattening-computes}
+use Rattle.shape.proofs.Computes.{computes as shapes-computes}
+use Rattle.validate.proofs.Computes.{computes as validation-computes}
+
+unfoldable pub computes : Unit {0}
+unfolding ofInt toBits keptBy thinBy accountOf pieceOf spanOf addPiece meshFrom meshOf accountsOf logsOf spanNumbers accountNumbers spansIn accountsIn noCounts refusedWith output countsOf done measureScene measure tooShort overlay buildOutput buildScene build keptCorners indicesIn measured bytesOf f32Bytes head onePair solidBytes solidAtX cornerBytes outlineBytes thinBytes offsetsFrom sceneBytes same objectsIn filled wordsOf atAll sameWords sameCounts
+computes = tt
+
+unfoldable pub all : Unit {0}
+unfolding computes lists-computes float-computes coords-computes circle-computes object-computes scene-computes face-computes lid-computes flattening-computes shapes-computes validation-computes
+all = tt

@@ -1,0 +1,121 @@
+// Build: tests the room, by the most that the objects can come to or else measured, and then writes.
+
+pub mod pass;
+
+ghost use mathlib.Core.Path.{_≡_};
+ghost use Prim.Native.Nat.{_≤_};
+ghost use Rattle.scene_field.specs.Layout.{mostBytes, mostObjects};
+ghost use Rattle.scene.specs.declared.scenes.Checked.the-variants.{Accepted};
+ghost use Rattle.scene.specs.Scene.{scene};
+ghost use Rattle.scene.specs.Answers.{checkedOf};
+ghost use Rattle.mesh.specs.Operations.{buildScene, build};
+ghost use Rattle.mesh_answer.specs.Answers.{lengthsFrom, Builds};
+ghost use Rattle.mesh_bound.specs.Most.{numbersOf, together, Few};
+ghost use Rattle.mesh_build.specs.Plan.{PlanBy, PlanHolds};
+use crate::pass::write_objects;
+use float::MIN_AREA;
+use mesh::Room;
+use mesh_answer::Answered;
+use mesh_answer::Lengths;
+use mesh_bound::Most;
+use mesh_bound_scene::part_of_all;
+use mesh_room::bound_counts;
+use mesh_room::room;
+use refusal::Refusal;
+use scene::scenes::Checked;
+
+// What is to be done before a buffer is touched: refuse, or write so many objects.
+pub enum Plan {
+    Refuse(Refusal, u32),
+    Write(u32),
+}
+
+// By what both parts of n objects come to.
+fn plan_parts(has: Lengths, others: Most, lids: Most, n: u32) -> Plan
+    requires { ⌜ Few others mostBytes mostObjects × Few lids mostBytes mostObjects × (n ≤ mostObjects) ⌝ }
+    ensures { λ r. ⌜ PlanBy (lengthsFrom has) (numbersOf (together others lids) n) n r ⌝ }
+{
+    match room(has, bound_counts(others, lids, n)) {
+        Room::Enough => Plan::Write(n),
+        Room::Short(f) => Plan::Refuse(f, 0),
+    }
+}
+
+// The n objects of an accepted scene: by the most that they can come to, then with those without
+// lids measured, which takes drawing but no cutting, then with all measured, which is exact and
+// so tells the refusal too. No object is drawn twice for it.
+fn plan_objects(s: &[u8], n: u32, limit: f32, has: Lengths) -> Plan
+    requires { ⌜ Accepted n ≡ checkedOf (scene (now s)) ⌝ }
+    ensures { λ r. ⌜ PlanHolds limit (now (s .entry)) (lengthsFrom has) r ⌝ }
+{
+    let lids = part_of_all(s, n, limit, true, false);
+    let most = part_of_all(s, n, limit, false, false);
+    if let Plan::Write(_) = plan_parts(has, most, lids, n) {
+        return Plan::Write(n);
+    }
+    let others = part_of_all(s, n, limit, false, true);
+    if let Plan::Write(_) = plan_parts(has, others, lids, n) {
+        return Plan::Write(n);
+    }
+    plan_parts(has, others, part_of_all(s, n, limit, true, true), n)
+}
+
+fn plan_scene(s: &[u8], limit: f32, has: Lengths) -> Plan
+    ensures { λ r. ⌜ PlanHolds limit (now (s .entry)) (lengthsFrom has) r ⌝ }
+{
+    match scene_check::check_scene(s) {
+        Checked::Refused(f, object) => Plan::Refuse(f, object),
+        Checked::Accepted(n) => plan_objects(s, n, limit, has),
+    }
+}
+
+// At a limit below which a triangle is thin.
+fn build_scene(
+    s: &[u8],
+    limit: f32,
+    vertices: &mut [f32],
+    normals: &mut [f32],
+    indices: &mut [u32],
+    spans: &mut [u32],
+    account: &mut [u32],
+    log: &mut [u32],
+) -> Answered
+    ensures { λ r. ⌜ Builds (buildScene limit (scene (now (s .entry)))) r vertices normals indices spans account log ⌝ }
+{
+    let has = Lengths {
+        vertices: vertices.len(),
+        normals: normals.len(),
+        indices: indices.len(),
+        spans: spans.len(),
+        account: account.len(),
+        log: log.len(),
+    };
+    match plan_scene(s, limit, has) {
+        Plan::Refuse(f, object) => Answered::Refused(f, object),
+        Plan::Write(n) => Answered::Counts(write_objects(
+            s,
+            n,
+            limit,
+            vertices,
+            normals,
+            indices,
+            spans,
+            account,
+            log,
+        )),
+    }
+}
+
+pub fn build(
+    s: &[u8],
+    vertices: &mut [f32],
+    normals: &mut [f32],
+    indices: &mut [u32],
+    spans: &mut [u32],
+    account: &mut [u32],
+    log: &mut [u32],
+) -> Answered
+    ensures { λ r. ⌜ Builds (build (now (s .entry))) r vertices normals indices spans account log ⌝ }
+{
+    build_scene(s, MIN_AREA, vertices, normals, indices, spans, account, log)
+}

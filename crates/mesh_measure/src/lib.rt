@@ -1,0 +1,31 @@
+// Measure: for each buffer the count of numbers that Build will write.
+ghost use mathlib.Core.Path.{_≡_};
+ghost use Rattle.scene.specs.Scene.{scene};
+ghost use Rattle.mesh.specs.Operations.{measure};
+ghost use Rattle.mesh_answer.specs.Answers.{answerOf};
+ghost use Rattle.mesh_measure.specs.Bounds.{boundScene};
+use float::MIN_AREA;
+use mesh_answer::Answered;
+use mesh_bound_scene::part_of_all;
+use mesh_room::bound_counts;
+use scene::scenes::Checked;
+
+// What the objects take in each buffer at a limit below which a triangle is thin: measured, or the most that they can take.
+pub fn count_scene(s: &[u8], limit: f32, exact: bool) -> Answered
+    ensures { λ r. ⌜ answerOf r ≡ boundScene exact limit (scene (now (s .entry))) ⌝ }
+{
+    match scene_check::check_scene(s) {
+        Checked::Refused(f, object) => Answered::Refused(f, object),
+        Checked::Accepted(n) => {
+            let others = part_of_all(s, n, limit, false, exact);
+            let lids = part_of_all(s, n, limit, true, exact);
+            Answered::Counts(bound_counts(others, lids, n))
+        }
+    }
+}
+
+pub fn measure(s: &[u8]) -> Answered
+    ensures { λ r. ⌜ answerOf r ≡ measure (now (s .entry)) ⌝ }
+{
+    count_scene(s, MIN_AREA, true)
+}

@@ -1,0 +1,47 @@
+// The room that objects need in the buffers, and whether the buffers have it.
+ghost use mathlib.Core.Path.{_≡_};
+ghost use Prim.Native.Nat.{_≤_};
+ghost use lib.Dec.{ltb};
+ghost use Rattle.scene_field.specs.Layout.{mostBytes, mostObjects};
+ghost use Rattle.mesh.specs.Operations.{tooShort};
+ghost use Rattle.mesh_answer.specs.Answers.{countsFrom, lengthsFrom};
+ghost use Rattle.mesh_bound.specs.Most.{together, numbersOf, Few};
+use mesh::Room;
+use mesh_answer::Counted;
+use mesh_answer::Lengths;
+use mesh_answer::numbers_for;
+use mesh_bound::Most;
+use mesh_bound::add;
+use refusal::Refusal;
+
+// The numbers that n objects take in each buffer, by what the two parts of them come to.
+pub fn bound_counts(others: Most, lids: Most, n: u32) -> Counted
+    requires { ⌜ Few others mostBytes mostObjects × Few lids mostBytes mostObjects × (n ≤ mostObjects) ⌝ }
+    ensures { λ r. ⌜ countsFrom r ≡ numbersOf (together others lids) n ⌝ }
+{
+    let m = add(others, lids);
+    numbers_for(m.vertices, m.triangles, m.spans, n, m.entries)
+}
+
+// Whether a buffer that holds `has` numbers is too short for n.
+fn short(has: usize, n: u32) -> bool
+    ensures { λ r. ⌜ r ≡ ltb has n ⌝ }
+{
+    has < n as usize
+}
+
+// Whether buffers of these lengths have room.
+pub fn room(has: Lengths, c: Counted) -> Room
+    ensures { λ r. ⌜ r ≡ tooShort (lengthsFrom has) (countsFrom c) ⌝ }
+{
+    if short(has.vertices, c.vertices) | short(has.normals, c.normals) {
+        return Room::Short(Refusal::ShortVertices);
+    }
+    if short(has.indices, c.indices) {
+        return Room::Short(Refusal::ShortIndices);
+    }
+    if short(has.spans, c.spans) | short(has.account, c.account) | short(has.log, c.log) {
+        return Room::Short(Refusal::ShortRecords);
+    }
+    Room::Enough
+}

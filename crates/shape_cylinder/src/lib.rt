@@ -1,0 +1,116 @@
+// The faces of a cylinder: `cylinder` of object_mesh.rs.
+ghost use mathlib.Core.Path.{_≡_};
+ghost use mathlib.Core.List.{[], _∷_};
+ghost use Prim.Native.Nat.{_+_, _<_};
+ghost use lib.ListN.{getD, length};
+ghost use Rattle.lists.specs.Loops.{list};
+ghost use Rattle.float.specs.Number.{zerof};
+ghost use Rattle.angle_circle.specs.Circle.{sideAngle, sine, cosine};
+ghost use Rattle.object.specs.Object.{frame};
+ghost use Rattle.face.specs.Drawing.{Room, Draws};
+ghost use Rattle.shape.specs.Shapes.{ringPoint, ringAt, cylinderSide};
+ghost use Rattle.shape.specs.Stages.{cylinderStages, DrawsStages};
+use coords::Point;
+use coords_vector::Vector;
+use face::Tally;
+use face_draw::quad;
+use object::Orientation;
+use shape::StageTallies;
+use shape_ring_face::end;
+
+fn ring_point(origin: Point, turn: Orientation, radius: f32, z: f32, k: usize) -> Point
+    requires { ⌜ k < 16 ⌝ }
+    ensures { λ r. ⌜ r ≡ ringPoint origin turn radius z k ⌝ }
+{
+    let angle = angle_circle::ring_sin_cos(k);
+    origin.add(object_frame::frame(turn, radius * angle.cos, radius * angle.sin, z))
+}
+
+// The ring points of both ends, the bottom's and the top's.
+fn rings_of(origin: Point, turn: Orientation, radius: f32, height: f32) -> [[Point; 16]; 2]
+    ensures { λ r. ⌜ r ≡ ringAt origin turn radius zerof ∷ ringAt origin turn radius height ∷ [] ⌝ }
+{
+    let ring = [origin; 16];
+    let mut rings = [ring; 2];
+    let mut k: usize = 0;
+    while k < 16 {
+        rings[0][k] = ring_point(origin, turn, radius, 0.0, k);
+        rings[1][k] = ring_point(origin, turn, radius, height, k);
+        k = k + 1;
+    }
+    rings
+}
+
+// The way that side k faces.
+fn side_direction(turn: Orientation, k: usize) -> Vector
+    requires { ⌜ k < 16 ⌝ }
+    ensures { λ r. ⌜ r ≡ frame turn (cosine (sideAngle k)) (sine (sideAngle k)) zerof ⌝ }
+{
+    let angle = angle_circle::side_sin_cos(k);
+    object_frame::frame(turn, angle.cos, angle.sin, 0.0)
+}
+
+// The sides, each from a ring point to the next.
+fn cylinder_sides(
+    rings: [[Point; 16]; 2],
+    turn: Orientation,
+    limit: f32,
+    before: u32,
+    t: Tally,
+    vs: &mut [f32],
+    ns: &mut [f32],
+    is: &mut [u32],
+) -> Tally
+    requires { ⌜ (length (getD rings 0 []) ≡ 16) × (length (getD rings 1 []) ≡ 16) × Room before t 64 32 ⌝ }
+    ensures { λ r. ⌜ Draws limit (list (cylinderSide turn (getD rings 0 []) (getD rings 1 [])) 16 0) before t r vs ns is ⌝ }
+{
+    let mut u = t;
+    let mut k: usize = 0;
+    while k < 16 {
+        let j = (k + 1) % 16;
+        let out = side_direction(turn, k);
+        u = quad(
+            rings[0][k],
+            rings[0][j],
+            rings[1][j],
+            rings[1][k],
+            out,
+            limit,
+            before,
+            u,
+            vs,
+            ns,
+            is,
+        );
+        k = k + 1;
+    }
+    u
+}
+
+// An upright cylinder centred on the origin and rising from it; without a floor where it has no
+// height. What was written and counted after its sides, the end at its height and the other end.
+pub fn cylinder(
+    origin: Point,
+    turn: Orientation,
+    radius: f32,
+    height: f32,
+    limit: f32,
+    before: u32,
+    t: Tally,
+    vs: &mut [f32],
+    ns: &mut [f32],
+    is: &mut [u32],
+) -> StageTallies
+    requires { ⌜ Room before t 96 60 ⌝ }
+    ensures { λ r. ⌜ DrawsStages limit (cylinderStages turn (ringAt origin turn radius zerof) (ringAt origin turn radius height) height) before t r vs ns is ⌝ }
+{
+    let rings = rings_of(origin, turn, radius, height);
+    let up = object_frame::frame(turn, 0.0, 0.0, 1.0);
+    let u = cylinder_sides(rings, turn, limit, before, t, vs, ns, is);
+    let w = end(rings[1], up, limit, before, u, vs, ns, is);
+    if height > 0.0 {
+        let x = end(rings[0], up.neg(), limit, before, w, vs, ns, is);
+        return [u, w, x, x, x, x];
+    }
+    [u, w, w, w, w, w]
+}

@@ -1,0 +1,54 @@
+-- `shape_outline_lid_cut::lay_flat` meets its contract. Assumes nothing.
+use mathlib.Core.Path.{_≡_, refl, ap, ap₂, _∙_}
+use Prim.Native.Nat.{ℕ, _≤_, _+_, _-_, _*_}
+use native.Mathlib.Omega.{arith}
+use lib.ListN.{length, length-set, take, drop}
+use Rattle.coords.specs.declared.Point.{Point}
+use Rattle.lid_plane.specs.Steps.{flatOn}
+use Rattle.lid.specs.declared.Flat.{Flat}
+use Rattle.lists.specs.Loops.{list}
+use Rattle.scene_field.specs.Fields.{pointAt}
+use Rattle.shape_outline_lid_cut.proofs.FillLaws.{front-end, first-next, second-next}
+use Rattle.shape_outline_lid_cut.proofs.FlatLaws.{laid-flat}
+use Rattle.shape_outline_lid_cut.proofs.lay_flat.Statement.{statement}
+use Rattle.shape_outline_lid_cut.proofs.lay_flat.Tie as tie
+
+abbrev Inv-loop : tie.InvT-loop
+Inv-loop s at n room₀ e1 e2 k₀ room k = (k ≤ n) × (length room ≡ length room₀) × (take k room ≡ list (λ j. flatOn (pointAt s at) e1 e2 (pointAt s (at + 24 * j)) .u) k 0) × (take k (drop n room) ≡ list (λ j. flatOn (pointAt s at) e1 e2 (pointAt s (at + 24 * j)) .v) k 0)
+
+abbrev μ-loop : tie.MeasureT-loop
+μ-loop s at n room₀ e1 e2 k₀ room k = n - k
+
+loop-holds : tie.Need-loop-holds Inv-loop μ-loop
+unfolding list
+loop-holds c = (omega arith, refl, refl, refl)
+
+loop-again : tie.Need-loop-again Inv-loop μ-loop
+loop-again c =
+    let z = c .before .before .before .before .before .before .before .before .before in
+    let a = z .args in
+    let s = a .s .now in
+    let l = c .before .before .before .before .loop in
+    let e1 = c .before .before .before .before .before .before .first-axis .result in
+    let e2 = c .before .before .before .before .before .cross .result in
+    let flat : ℕ → Flat = λ j. flatOn (pointAt s (a .at)) e1 e2 (pointAt s (a .at + 24 * j)) in
+    let e = c .flat-corner .ensures ∙ ap₂ (λ (o p : Point). flatOn o e1 e2 p) (c .before .before .point-at .ensures) (c .before .point-at2 .ensures) in
+    let below = c .before .before .before .loop-test .taken in
+    let fits : 2 * a .n ≤ length (l .room) = omega (arith, l .inv .1, z .pre .1) in
+    (omega arith, simp length-set (l .inv .1), first-next (λ j. flat j .u) (λ j. flat j .v) (l .room) (a .n) (l .k) _ _ below fits (ap (λ (f : Flat). f .u) e) (l .inv .2), second-next (λ j. flat j .u) (λ j. flat j .v) (l .room) (a .n) (l .k) _ _ below fits (ap (λ (f : Flat). f .v) e) (l .inv .3))
+
+returns : tie.Need-returns Inv-loop μ-loop
+returns c =
+    let a = c .before .before .before .before .before .before .args in
+    let s = a .s .now in
+    let l = c .before .loop in
+    let flat : ℕ → Flat = λ j. flatOn (pointAt s (a .at)) (c .before .before .before .first-axis .result) (c .before .before .cross .result) (pointAt s (a .at + 24 * j)) in
+    let end : l .k ≡ a .n = omega arith in
+    laid-flat s (a .n) (a .at) (a .lid) _ _ _ _ (c .before .before .before .first-axis .ensures) (c .before .before .cross .ensures) (front-end (λ j. flat j .u) (l .room) (a .n) (l .k) end (l .inv .2)) (front-end (λ j. flat j .v) (drop (a .n) (l .room)) (a .n) (l .k) end (l .inv .3))
+
+pub lay-flat-spec : {M : Type 1} → statement M
+lay-flat-spec =
+    tie.close
+    (tie.spec Inv-loop μ-loop (λ c κs. tt) (λ c κs. tt) loop-holds (λ c κs. omega arith) (λ c. omega arith) (λ c. omega arith)
+    (λ c κs. omega arith) (λ c κs. tt) (λ c. omega arith) (λ c. omega arith) (λ c. omega arith) (λ c. omega arith) (λ c. simp length-set (omega arith))
+    (λ c. omega arith) (λ c. omega arith) loop-again (λ c. c .before .loop .inv .1) returns)

@@ -1,7 +1,0 @@
--- To compute with this crate's definitions, name `computes` on an `unfolding` line. Assumes nothing.
-use Rattle.validation.specs.Numbers.{verdictNumbers, validationNumbers}
-use Rattle.validation.specs.Validate.{degenerate, triangleAt, trianglesFrom, orLater, verdictAt, verdict, validateAt, validate}
-
-unfoldable pub computes : Unit {0}
-unfolding verdictNumbers validationNumbers degenerate triangleAt trianglesFrom orLater verdictAt verdict validateAt validate
-computes = tt
