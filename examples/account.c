@@ -17,6 +17,14 @@ static void *room(uint32_t n) {
     return p;
 }
 
+static void stop_if_refused(object_mesh_answer answer) {
+    if (answer.refusal != OBJECT_MESH_REFUSED_NONE) {
+        printf("refused %u, object %u: %s\n", answer.refusal, answer.object,
+               object_mesh_refusal_text(answer.refusal));
+        exit(1);
+    }
+}
+
 int main(int argc, char **argv) {
     FILE *file = argc == 2 ? fopen(argv[1], "rb") : NULL;
     if (file == NULL) {
@@ -26,22 +34,23 @@ int main(int argc, char **argv) {
     size_t length = fread(scene, 1, sizeof scene, file);
     fclose(file);
 
-    Answer need = object_mesh_measure(scene, length);
-    if (need.refusal != 0) {
-        printf("refused %u, object %u\n", need.refusal, need.object);
-        return 1;
-    }
+    object_mesh_answer need = object_mesh_measure(scene, length);
+    stop_if_refused(need);
     float *vertices = room(need.vertices), *normals = room(need.normals);
     uint32_t *indices = room(need.indices), *spans = room(need.spans);
     uint32_t *account = room(need.account), *log = room(need.log);
-    object_mesh_build(scene, length, vertices, need.vertices, normals, need.normals, indices,
-                      need.indices, spans, need.spans, account, need.account, log, need.log);
+    stop_if_refused(object_mesh_build(scene, length, vertices, need.vertices, normals, need.normals,
+                                      indices, need.indices, spans, need.spans, account,
+                                      need.account, log, need.log));
 
     for (uint32_t k = 0; k < need.account; k += 4) {
         printf("object %u: offered %u, kept %u, thin %u\n", k / 4, account[k], account[k + 1],
                account[k + 2]);
     }
-    Judgement judgement = object_mesh_validate(vertices, need.vertices, indices, need.indices);
-    printf("%u triangles, verdict %u\n", need.indices / 3, judgement.verdict);
+    /* What build has written is ok or empty. */
+    object_mesh_judgement judgement =
+        object_mesh_validate(vertices, need.vertices, indices, need.indices);
+    printf("%u triangles, verdict %s\n", need.indices / 3,
+           judgement.verdict == OBJECT_MESH_VERDICT_OK ? "ok" : "empty");
     return 0;
 }

@@ -1,14 +1,14 @@
 /* Object mesh: triangles of the objects along a road, with an account of each.
  *
- * Link with libobject_mesh.a (`rt staticlib object_mesh`). No function keeps memory, calls the
- * operating system or fails: every input is answered, and a refused call changes no buffer. A slice
- * passes as a pointer and a length in elements; buffers do not overlap, and a pointer is not null
- * even where its length is 0.
+ * For C99 and C++11, and later; link with libobject_mesh.a (`rt staticlib object_mesh`). No function
+ * keeps memory, calls the operating system or fails: every input is answered, and a refused call changes
+ * no buffer. A slice passes as a pointer and a length in elements; buffers do not overlap, and a pointer
+ * is not null even where its length is 0.
  *
  * ---- Scene bytes, little-endian
  *
  * Object records from byte 0 on, end to end, then the u32 offset of each record, then the u32 number
- * of records. A record is a kind byte, a u32 id (ids may repeat), then
+ * of records. A record is a kind byte (enum object_mesh_kind), a u32 id (ids may repeat), then
  *   0 unsized, 1 box, 2 cylinder:
  *       position (3 f32); sine and cosine of heading, of pitch, of roll (6 f64);
  *       then for a box length, width, height, for a cylinder radius, height (f32)
@@ -20,22 +20,6 @@
  * Limits: 16,777,216 bytes, 65,536 objects, 32 holes, 512 corners in an outline with its holes, 4,096
  * sections. Each f32 is finite and at most 16,777,216 in magnitude, each f64 finite and at most 1.
  *
- * ---- Refusals, and the object named
- *
- *    1  the scene has under 4 bytes, or too many                                       0
- *    2  over 65,536 objects, or the trailer is longer than the scene                    0
- *    3  a record does not start where the one before ends                    the record
- *       the last record does not end at the trailer                      number of records
- *    4  a record's bytes pass the trailer's start                            the record
- *    5  a kind above 6                                                        the record
- *    6  a count over its limit                                                the record
- *    7  a number that is not allowed                                          the record
- *    8  the buffer of vertices or of normals is shorter than measured                  0
- *    9  the buffer of indices is                                                       0
- *   10  the buffer of spans, account or log is                                         0
- *   11  validate: the vertices' length is no multiple of 3                             0
- * The first that is met is given, from 1 on, record by record.
- *
  * ---- Buffers
  *
  * vertices  3 f32 a vertex, metres, right-handed, Z up
@@ -45,11 +29,8 @@
  *           id, first vertex, vertex behind the last, first index, index behind the last
  * account   4 u32 an object: triangles offered by the price list, kept, too thin to draw, log entries;
  *           offered = kept + thin
- * log       4 u32 an entry, the objects' entries one behind the other (closed outlines have them):
- *           7,0,0,0 the outer ring has no area: no lid     6,hole,0,0 a hole without area, skipped
- *           4,hole,place,corner a hole joined              5,hole,0,0 a hole that could not be joined
- *           1,a,b,c an ear cut                             2,a,b,c corner b dropped
- *           3,a,0,0 a corner of the ring that is left
+ * log       4 u32 an entry: a mark (enum object_mesh_mark) and three numbers; the objects' entries one
+ *           behind the other (closed outlines have them)
  */
 #ifndef OBJECT_MESH_H
 #define OBJECT_MESH_H
@@ -61,9 +42,78 @@
 extern "C" {
 #endif
 
-/* The answer of measure and of build: the refusal (0: none), the object named, and how many numbers
- * each buffer gets (all 0 on a refusal). */
-typedef struct {
+/* The kind byte of an object's record. */
+enum object_mesh_kind {
+    OBJECT_MESH_KIND_UNSIZED = 0,
+    OBJECT_MESH_KIND_BOX = 1,
+    OBJECT_MESH_KIND_CYLINDER = 2,
+    OBJECT_MESH_KIND_OPEN_OUTLINE = 3,
+    OBJECT_MESH_KIND_CLOSED_OUTLINE = 4,
+    OBJECT_MESH_KIND_SWEEP = 5,
+    OBJECT_MESH_KIND_ROUND_SWEEP = 6,
+};
+
+/* Why a call is refused; object_mesh_refusal_text says it in English. The first that is met is given,
+ * from 1 on, record by record. 3 to 7 name the record as the object, or the number of records where the
+ * last one does not end at the trailer (3); the others name object 0. */
+enum object_mesh_refusal {
+    OBJECT_MESH_REFUSED_NONE = 0,
+    OBJECT_MESH_REFUSED_LENGTH = 1,
+    OBJECT_MESH_REFUSED_TRAILER = 2,
+    OBJECT_MESH_REFUSED_START = 3,
+    OBJECT_MESH_REFUSED_EXTENT = 4,
+    OBJECT_MESH_REFUSED_KIND = 5,
+    OBJECT_MESH_REFUSED_COUNTS = 6,
+    OBJECT_MESH_REFUSED_NUMBERS = 7,
+    OBJECT_MESH_REFUSED_SHORT_VERTICES = 8,
+    OBJECT_MESH_REFUSED_SHORT_INDICES = 9,
+    OBJECT_MESH_REFUSED_SHORT_RECORDS = 10,
+    OBJECT_MESH_REFUSED_PARTIAL_VERTEX = 11,
+};
+
+static inline const char *object_mesh_refusal_text(uint32_t refusal) {
+    switch (refusal) {
+    case OBJECT_MESH_REFUSED_NONE: return "not refused";
+    case OBJECT_MESH_REFUSED_LENGTH: return "the scene has under 4 bytes, or over 16,777,216";
+    case OBJECT_MESH_REFUSED_TRAILER: return "over 65,536 objects, or the trailer is longer than the scene";
+    case OBJECT_MESH_REFUSED_START: return "the records do not lie end to end from byte 0 to the trailer";
+    case OBJECT_MESH_REFUSED_EXTENT: return "a record's bytes pass the trailer's start";
+    case OBJECT_MESH_REFUSED_KIND: return "a record's kind is not known";
+    case OBJECT_MESH_REFUSED_COUNTS: return "a count is over its limit";
+    case OBJECT_MESH_REFUSED_NUMBERS: return "a number is not finite, or over its limit";
+    case OBJECT_MESH_REFUSED_SHORT_VERTICES: return "the buffer of vertices or of normals is shorter than measured";
+    case OBJECT_MESH_REFUSED_SHORT_INDICES: return "the buffer of indices is shorter than measured";
+    case OBJECT_MESH_REFUSED_SHORT_RECORDS: return "the buffer of spans, account or log is shorter than measured";
+    case OBJECT_MESH_REFUSED_PARTIAL_VERTEX: return "the vertices' length is no multiple of 3";
+    default: return "unknown refusal";
+    }
+}
+
+/* What validate says of a mesh. */
+enum object_mesh_verdict {
+    OBJECT_MESH_VERDICT_OK = 0,
+    OBJECT_MESH_VERDICT_EMPTY = 1,               /* there are no triangles */
+    OBJECT_MESH_VERDICT_NON_FINITE_VERTEX = 2,   /* a vertex has a NaN or an infinity */
+    OBJECT_MESH_VERDICT_INDEX_OUT_OF_RANGE = 3,  /* a triangle's index is past the vertices */
+    OBJECT_MESH_VERDICT_DEGENERATE_TRIANGLE = 4, /* one has no area, repeats a vertex or lacks one */
+};
+
+/* The mark of a log entry, with its other three numbers. Corners count from 0, the outer ones and then
+ * the holes', as in the record; holes count from 0. The entries of an object are one marked 7 alone, or
+ * those marked 6, then 4 and 5, then 1 and 2, then 3. */
+enum object_mesh_mark {
+    OBJECT_MESH_MARK_EAR_CUT = 1,         /* a, b, c: the ear's corners */
+    OBJECT_MESH_MARK_CORNER_DROPPED = 2,  /* a, b, c: corner b, between a and c */
+    OBJECT_MESH_MARK_CORNER_LEFT = 3,     /* a, 0, 0: a corner of the ring that is left */
+    OBJECT_MESH_MARK_HOLE_JOINED = 4,     /* hole, place in the ring before the splice, place in the turned hole */
+    OBJECT_MESH_MARK_HOLE_NOT_JOINED = 5, /* hole, 0, 0: it could not be joined */
+    OBJECT_MESH_MARK_HOLE_SKIPPED = 6,    /* hole, 0, 0: it has no area */
+    OBJECT_MESH_MARK_NO_LID = 7,          /* 0, 0, 0: the outer ring has no area */
+};
+
+/* The answer of measure and of build: the refusal (enum object_mesh_refusal), the object named, and how
+ * many numbers each buffer gets (all 0 on a refusal). */
+typedef struct object_mesh_answer {
     uint32_t refusal;
     uint32_t object;
     uint32_t vertices;
@@ -72,36 +122,37 @@ typedef struct {
     uint32_t spans;
     uint32_t account;
     uint32_t log;
-} Answer;
+} object_mesh_answer;
 
-/* The answer of validate. refusal: 0 or 11. object: 0. verdict: 0 ok, 1 empty, 2 a vertex is not
- * finite (place), 3 an index is out of range (place: the triangle; index; count: the vertices there
- * are), 4 a triangle has no area or repeats a vertex (place). What a verdict does not have is 0. */
-typedef struct {
+/* The answer of validate. refusal: OBJECT_MESH_REFUSED_NONE or OBJECT_MESH_REFUSED_PARTIAL_VERTEX.
+ * object: 0. verdict: enum object_mesh_verdict. place: the vertex that is not finite, or the triangle.
+ * index, count: the index out of range, and how many vertices there are. What a verdict does not have
+ * is 0. */
+typedef struct object_mesh_judgement {
     uint32_t refusal;
     uint32_t object;
     uint32_t verdict;
     uint32_t index;
     uint64_t place;
     uint64_t count;
-} Judgement;
+} object_mesh_judgement;
 
 /* How many numbers build writes to each buffer. Refusals 1 to 7. */
-Answer object_mesh_measure(const uint8_t *scene, size_t scene_len);
+object_mesh_answer object_mesh_measure(const uint8_t *scene, size_t scene_len);
 
 /* Writes the mesh, spans, account and log from the start of each buffer; what lies behind is kept.
  * Refusals 1 to 10. */
-Answer object_mesh_build(const uint8_t *scene, size_t scene_len,
-                         float *vertices, size_t vertices_len,
-                         float *normals, size_t normals_len,
-                         uint32_t *indices, size_t indices_len,
-                         uint32_t *spans, size_t spans_len,
-                         uint32_t *account, size_t account_len,
-                         uint32_t *log, size_t log_len);
+object_mesh_answer object_mesh_build(const uint8_t *scene, size_t scene_len,
+                                     float *vertices, size_t vertices_len,
+                                     float *normals, size_t normals_len,
+                                     uint32_t *indices, size_t indices_len,
+                                     uint32_t *spans, size_t spans_len,
+                                     uint32_t *account, size_t account_len,
+                                     uint32_t *log, size_t log_len);
 
 /* Whether a mesh can back a physics collider, and if not, why. */
-Judgement object_mesh_validate(const float *vertices, size_t vertices_len,
-                               const uint32_t *indices, size_t indices_len);
+object_mesh_judgement object_mesh_validate(const float *vertices, size_t vertices_len,
+                                           const uint32_t *indices, size_t indices_len);
 
 #ifdef __cplusplus
 }
