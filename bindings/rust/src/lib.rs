@@ -2,13 +2,9 @@
 //! library. include/object_mesh.h documents the scene bytes and every number.
 
 mod calls;
+mod refusal;
 
-/// Why a call was refused: its number, and the object named.
-#[derive(Debug, Clone, Copy, PartialEq, Eq)]
-pub struct Refusal {
-    pub number: u32,
-    pub object: u32,
-}
+pub use refusal::Refusal;
 
 /// How many numbers each buffer takes.
 #[derive(Debug, Clone, Copy, PartialEq, Eq)]
@@ -47,6 +43,14 @@ pub struct Built {
     pub spans: Vec<Span>,
     pub account: Vec<Account>,
     pub log: Vec<[u32; 4]>,
+}
+
+impl Built {
+    /// The verdict on the mesh; on one that `build` gave it is `Ok` or `Empty`.
+    pub fn validate(&self) -> Verdict {
+        validate(self.vertices.as_flattened(), &self.indices)
+            .expect("whole vertices are not refused")
+    }
 }
 
 #[derive(Debug, Clone, Copy, PartialEq, Eq)]

@@ -31,8 +31,20 @@ fn accounts_add_up_and_spans_lie_end_to_end() {
         ends = (span.vertices.end, span.indices.end);
     }
     assert_eq!(ends, (built.vertices.len() as u32, built.indices.len() as u32));
-    let numbers: Vec<f32> = built.vertices.concat();
-    assert_eq!(validate(&numbers, &built.indices), Ok(Verdict::Ok));
+}
+
+#[test]
+fn a_built_mesh_is_judged() {
+    assert_eq!(build(&[0; 4]).unwrap().validate(), Verdict::Empty);
+    let mut built = build(STREET).unwrap();
+    assert_eq!(built.validate(), Verdict::Ok);
+    built.indices[4] = 152;
+    let expected = Verdict::IndexOutOfRange {
+        triangle: 1,
+        index: 152,
+        vertices: 152,
+    };
+    assert_eq!(built.validate(), expected);
 }
 
 #[test]
@@ -40,6 +52,8 @@ fn refusals_and_verdicts() {
     let refused = |number, object| Err(Refusal { number, object });
     assert_eq!(measure(&[]), refused(1, 0));
     assert_eq!(measure(&STREET[1..]), refused(5, 0));
+    let error: Box<dyn std::error::Error> = measure(&STREET[1..]).unwrap_err().into();
+    assert_eq!(error.to_string(), "refused 5, object 0: a record's kind is not known");
     assert!(build(&[0; 4]).unwrap().indices.is_empty());
     assert_eq!(validate(&[], &[]), Ok(Verdict::Empty));
     assert_eq!(validate(&[0.0; 4], &[0]).unwrap_err().number, 11);
