@@ -50,7 +50,7 @@ about cs lid = scale lid (signum (dot (areaNormal (basesOf cs)) lid))
 unfoldable pub firstAxis : Vector → Vector
 firstAxis lid = let e = cond (lt halff (magnitude (lid .z))) unitX unitZ in normalizeOr (less e (scale lid (dot e lid))) zeroV
 
--- all corners, measured from the first top
+-- all corners, by their coordinates from the first top on
 unfoldable pub flatten : Vector → List Point → List Flat
 flatten lid tops =
     let o = getD tops 0 origin in

@@ -1,5 +1,5 @@
 // The directions of a lid's plane, and a corner laid flat on it: the lid's normal or its reverse as a ring
-// runs about it, the plane's first axis, and a top measured along both axes.
+// runs about it, the plane's first axis, and a top's coordinates along both axes.
 ghost use mathlib.Core.Path.{_≡_};
 ghost use Rattle.lid_plane.specs.Plane.{firstAxis};
 ghost use Rattle.lid_plane.specs.Steps.{aboutFrom, flatOn, axisAcross};
@@ -40,7 +40,7 @@ fn axis_across(lid: Vector) -> Vector
     }
 }
 
-// A top on the lid's plane, measured from the first top along both axes.
+// A top on the lid's plane, by its coordinates from the first top along both axes.
 pub fn flat_corner(first: Point, e1: Vector, e2: Vector, p: Point) -> Flat
     ensures { λ r. ⌜ r ≡ flatOn first e1 e2 p ⌝ }
 {

@@ -2,7 +2,7 @@
 use lib.Ieee.{ofInt, toBits}
 use Rattle.mesh.specs.Mesh.{keptBy, thinBy, accountOf, pieceOf, spanOf, addPiece, meshFrom, meshOf, accountsOf, logsOf, spanNumbers, accountNumbers, spansIn, accountsIn}
 use Rattle.mesh.specs.Operations.{noCounts, refusedWith, output, countsOf, done, measureScene, measure, tooShort, overlay, buildOutput, buildScene, build}
-use Rattle.mesh.specs.Demand3.{keptCorners, indicesIn, measured}
+use Rattle.mesh.specs.Demand3.{keptCorners, indicesIn, prefixes}
 use Rattle.mesh.specs.Samples.{bytesOf, f32Bytes, head, onePair, solidBytes, solidAtX, cornerBytes, outlineBytes, thinBytes, offsetsFrom, sceneBytes, same, objectsIn, filled, wordsOf, atAll, sameWords, sameCounts}
 use Rattle.lists.proofs.Computes.{computes as lists-computes}
 use Rattle.float.proofs.Computes.{computes as float-computes}
@@ -17,7 +17,7 @@ use Rattle.shape.proofs.Computes.{computes as shapes-computes}
 use Rattle.validate.proofs.Computes.{computes as validation-computes}
 
 unfoldable pub computes : Unit {0}
-unfolding ofInt toBits keptBy thinBy accountOf pieceOf spanOf addPiece meshFrom meshOf accountsOf logsOf spanNumbers accountNumbers spansIn accountsIn noCounts refusedWith output countsOf done measureScene measure tooShort overlay buildOutput buildScene build keptCorners indicesIn measured bytesOf f32Bytes head onePair solidBytes solidAtX cornerBytes outlineBytes thinBytes offsetsFrom sceneBytes same objectsIn filled wordsOf atAll sameWords sameCounts
+unfolding ofInt toBits keptBy thinBy accountOf pieceOf spanOf addPiece meshFrom meshOf accountsOf logsOf spanNumbers accountNumbers spansIn accountsIn noCounts refusedWith output countsOf done measureScene measure tooShort overlay buildOutput buildScene build keptCorners indicesIn prefixes bytesOf f32Bytes head onePair solidBytes solidAtX cornerBytes outlineBytes thinBytes offsetsFrom sceneBytes same objectsIn filled wordsOf atAll sameWords sameCounts
 computes = tt
 
 unfoldable pub all : Unit {0}

@@ -17,7 +17,7 @@ use Rattle.coords.specs.Buffers.{vertexNumbers}
 use Rattle.object.specs.Object.{Object}
 use Rattle.scene.specs.Scene.{Scene, accepted, scene}
 use Rattle.lid.specs.Log.{Entry}
-use Rattle.mesh.specs.Demand3.{AccountHolds, AreasFollow, SpansFollow, EndToEnd, LongEnough, measured, Demand3Of, Demand3}
+use Rattle.mesh.specs.Demand3.{AccountHolds, AreasFollow, SpansFollow, EndToEnd, LongEnough, prefixes, Demand3Of, Demand3}
 use Rattle.mesh.specs.Mesh.{Span, Account, accountsOf, logsOf, meshOf}
 use Rattle.mesh.specs.declared.Room.{Room}
 use Rattle.mesh.specs.declared.Room.the-variants.{Enough}
@@ -30,7 +30,7 @@ use Rattle.scene.proofs.Accepted.{accepted-near}
 use Rattle.lid.proofs.Entries.{entries-back}
 use Rattle.mesh.proofs.Demand3.Accounts.{accounts-hold}
 use Rattle.mesh.proofs.Demand3.Areas.{areas-follow}
-use Rattle.mesh.proofs.Demand3.Records.{measured-is-written, spans-back, accounts-back}
+use Rattle.mesh.proofs.Demand3.Records.{prefixes-written, spans-back, accounts-back}
 use Rattle.mesh.proofs.Demand3.Spans.{mesh-spans, mesh-ends}
 use Rattle.mesh.proofs.Demand3.Verdict.{verdict-holds}
 use Rattle.mesh.proofs.Rooms.{long-enough}
@@ -52,26 +52,26 @@ written-holds limit above os near =
       areas = subst₂ (λ (accounts : List Account) (log : List Entry). AreasFollow os accounts log) (sym accounts) (sym (entries-back (logsOf os))) (areas-follow limit os near);
     }
 
--- ---- what Build leaves in the measured first parts of long enough buffers is that, whatever they held
+-- ---- what Build leaves in the measured first numbers of long enough buffers is that, whatever they held
 
-built : (written b : Buffers) (n : Room) → n ≡ Enough → measured (countsOf written) (buildOutput written b n .buffers) ≡ written
+built : (written b : Buffers) (n : Room) → n ≡ Enough → prefixes (countsOf written) (buildOutput written b n .buffers) ≡ written
 unfolding buildOutput
-built w b n h = ap (λ (k : Room). measured (countsOf w) (buildOutput w b k .buffers)) h ∙ measured-is-written w b
+built w b n h = ap (λ (k : Room). prefixes (countsOf w) (buildOutput w b k .buffers)) h ∙ prefixes-written w b
 
 scene-built : (limit : Float) (os : List Object) (b : Buffers) (s : Scene) → s ≡ accepted os → LongEnough (countsOf b) (measureScene limit s .counts)
-    → measured (measureScene limit s .counts) (buildScene limit s b .buffers) ≡ output limit os
+    → prefixes (measureScene limit s .counts) (buildScene limit s b .buffers) ≡ output limit os
 unfolding measureScene buildScene done
 scene-built limit os b s e h =
     let w = output limit os in
-    ap (λ (s : Scene). measured (measureScene limit s .counts) (buildScene limit s b .buffers)) e
+    ap (λ (s : Scene). prefixes (measureScene limit s .counts) (buildScene limit s b .buffers)) e
     ∙ built w b (tooShort (countsOf b) (countsOf w)) (sym (ap (λ (s : Scene). tooShort (countsOf b) (measureScene limit s .counts)) e) ∙ long-enough (countsOf b) (measureScene limit s .counts) h)
 
-pub measured-output : (bytes : List ℕ) (os : List Object) (b : Buffers) → scene bytes ≡ accepted os → LongEnough (countsOf b) (measure bytes .counts)
-    → measured (measure bytes .counts) (build bytes b .buffers) ≡ output minArea os
+pub prefixes-output : (bytes : List ℕ) (os : List Object) (b : Buffers) → scene bytes ≡ accepted os → LongEnough (countsOf b) (measure bytes .counts)
+    → prefixes (measure bytes .counts) (build bytes b .buffers) ≡ output minArea os
 unfolding measure build
-measured-output bytes os b e h = scene-built minArea os b (scene bytes) e h
+prefixes-output bytes os b e h = scene-built minArea os b (scene bytes) e h
 
 -- ---- demand 3
 
 pub demand3 : Demand3
-demand3 bytes os b e h = subst (Demand3Of minArea os) (sym (measured-output bytes os b e h)) (written-holds minArea min-above os (accepted-near bytes os e))
+demand3 bytes os b e h = subst (Demand3Of minArea os) (sym (prefixes-output bytes os b e h)) (written-holds minArea min-above os (accepted-near bytes os e))

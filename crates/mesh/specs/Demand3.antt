@@ -89,7 +89,7 @@ AreasFollow (o ∷ os) (a ∷ accounts) log = AreasHold (o .shape) (take (a .ent
 
 -- ---- all of it
 
--- of a list of objects and the measured first parts of the buffers
+-- of a list of objects and the measured first numbers of the buffers
 pub record Demand3Of (limit : Float) (os : List Object) (mesh : Buffers) : Type 0 where
   pub account : Pairwise (AccountHolds limit) os (accountsIn (mesh .account))
   pub log : mesh .log ≡ logNumbers (logsOf os)
@@ -98,9 +98,9 @@ pub record Demand3Of (limit : Float) (os : List Object) (mesh : Buffers) : Type 
   pub verdict : validateAt limit (mesh .vertices) (mesh .indices) ≡ Judged (cond (eqb (sumOf (λ (o : Object). keptBy limit (o .shape)) os) 0) Empty Ok)
   pub areas : AreasFollow os (accountsIn (mesh .account)) (entriesIn (mesh .log))
 
--- the measured first part of each buffer
-unfoldable pub measured : Counts → Buffers → Buffers
-measured c b = each (λ k. take (at c k) (at b k))
+-- the first numbers of each buffer, as many as are counted for it
+unfoldable pub prefixes : Counts → Buffers → Buffers
+prefixes c b = each (λ k. take (at c k) (at b k))
 
 -- each of the six buffers has room for what is measured
 abbrev pub LongEnough : Counts → Counts → Type 0
@@ -112,4 +112,4 @@ Demand3 =
     (bytes : List ℕ) (os : List Object) (b : Buffers)
     → scene bytes ≡ accepted os
     → LongEnough (countsOf b) (measure bytes .counts)
-    → Demand3Of minArea os (measured (measure bytes .counts) (build bytes b .buffers))
+    → Demand3Of minArea os (prefixes (measure bytes .counts) (build bytes b .buffers))

@@ -64,7 +64,7 @@ tooShort has needs =
     (cond (ltb (has .spans) (needs .spans) || ltb (has .account) (needs .account) || ltb (has .log) (needs .log)) (Short ShortRecords)
     Enough))
 
--- the buffers with what is written over their first parts
+-- the buffers with what is written over their first numbers
 unfoldable pub overlay : Buffers → Buffers → Buffers
 overlay written b = each (λ k. over (at written k) (at b k))
 

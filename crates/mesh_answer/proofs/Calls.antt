@@ -22,7 +22,7 @@ use Rattle.mesh.specs.declared.Room.the-variants.{Enough, Short}
 use Rattle.mesh.specs.PerBuffer.{Buffers}
 use Rattle.mesh.specs.Operations.{Answer, Built, output, noCounts, refusedWith, countsOf, done, measureScene, measure, tooShort, overlay, buildOutput, buildScene, build}
 use Rattle.mesh_answer.specs.Answers.{countsFrom, answerOf, builtWith, BuiltAndJudged, judged, buildAndValidate}
-use Rattle.mesh.specs.Demand3.{LongEnough, measured, Demand3Of}
+use Rattle.mesh.specs.Demand3.{LongEnough, prefixes, Demand3Of}
 use Rattle.mesh.proofs.Rooms.{long-enough}
 use Rattle.mesh.proofs.Demand3.{demand3}
 
@@ -71,8 +71,8 @@ module _ (s : List ℕ) (b : Buffers) {r : Built} (e : r ≡ build s b) where
   both-are v i x p q h =
       (λ j. record { built = r; validation = (h ∙ ap₂ (λ (v i : ℕ). validate (take v (r .buffers .vertices)) (take i (r .buffers .indices))) p q) j }) ∙ ap judged e
 
-  pub demand3-built : (os : List Object) → scene s ≡ accepted os → LongEnough (countsOf b) (measure s .counts) → Demand3Of minArea os (measured (r .answer .counts) (r .buffers))
+  pub demand3-built : (os : List Object) → scene s ≡ accepted os → LongEnough (countsOf b) (measure s .counts) → Demand3Of minArea os (prefixes (r .answer .counts) (r .buffers))
   unfolding build measure
   demand3-built os h l =
-      subst (λ (r : Built). Demand3Of minArea os (measured (r .answer .counts) (r .buffers))) (sym e)
-      (subst (λ (a : Answer). Demand3Of minArea os (measured (a .counts) (buildScene minArea (scene s) b .buffers))) (sym (scene-answer minArea (scene s) b os h l)) (demand3 s os b h l))
+      subst (λ (r : Built). Demand3Of minArea os (prefixes (r .answer .counts) (r .buffers))) (sym e)
+      (subst (λ (a : Answer). Demand3Of minArea os (prefixes (a .counts) (buildScene minArea (scene s) b .buffers))) (sym (scene-answer minArea (scene s) b os h l)) (demand3 s os b h l))

@@ -46,7 +46,7 @@ builtWith r b = record { answer = answerOf r; buffers = b }
 abbrev pub Builds : (Buffers → Built) → Answered → Slice Float → Slice Float → Slice ℕ → Slice ℕ → Slice ℕ → Slice ℕ → Type 0
 Builds f r vs ns is ss accounts ls = builtWith r (leaving vs ns is ss accounts ls) ≡ f (entering vs ns is ss accounts ls)
 
--- Build, and then Validate on the measured first part of the buffers: nothing of them where Build is refused
+-- Build, and then Validate on the measured first numbers of the buffers: nothing of them where Build is refused
 pub record BuiltAndJudged : Type 0 where
   pub built : Built
   pub validation : Validation

@@ -1,4 +1,4 @@
-// Build, and then Validate on the measured first part of the buffers.
+// Build, and then Validate on the measured first numbers of the buffers.
 ghost use mathlib.Core.Path.{_≡_};
 ghost use mathlib.Core.List.{List};
 ghost use Rattle.float.specs.Number.{minArea};
@@ -7,7 +7,7 @@ ghost use Rattle.scene.specs.Scene.{scene, accepted};
 ghost use Rattle.mesh.specs.PerBuffer.{entering, leaving};
 ghost use Rattle.mesh.specs.Operations.{countsOf, measure, build};
 ghost use Rattle.mesh_answer.specs.Answers.{answerOf, judgedWith, buildAndValidate};
-ghost use Rattle.mesh.specs.Demand3.{LongEnough, measured, Demand3Of};
+ghost use Rattle.mesh.specs.Demand3.{LongEnough, prefixes, Demand3Of};
 use mesh_answer::JudgedBuild;
 use mesh_build::build;
 
@@ -25,7 +25,7 @@ pub fn build_and_validate(
     ensures demand3 { λ r. ⌜ ((os : List Object)
         → scene (now (s .entry)) ≡ accepted os
         → LongEnough (countsOf (entering vertices normals indices spans account log)) (measure (now (s .entry)) .counts)
-        → Demand3Of minArea os (measured (answerOf (r .answer) .counts) (leaving vertices normals indices spans account log))) ⌝ }
+        → Demand3Of minArea os (prefixes (answerOf (r .answer) .counts) (leaving vertices normals indices spans account log))) ⌝ }
 {
     let answer = build(s, vertices, normals, indices, spans, account, log);
     let m = answer.mesh_lengths();

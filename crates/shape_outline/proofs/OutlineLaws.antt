@@ -31,7 +31,7 @@ use Rattle.shape.specs.declared.Drawn.{Drawn}
 use Rattle.shape.specs.Drawn.{CanDraw, DrewObject}
 use Rattle.shape.specs.Price.{offered, outlinePrice}
 use Rattle.shape_outline_corners.specs.declared.OutlineAt.{OutlineAt}
-use Rattle.shape_outline_corners.specs.Outlines.{cornersOf, outlineShape, lidAt, Placed, Measured}
+use Rattle.shape_outline_corners.specs.Outlines.{cornersOf, outlineShape, lidAt, Placed, OutlineHolds}
 use Rattle.shape_outline_lid_faces.specs.declared.Capped.{Capped}
 use Rattle.shape_outline_lid_faces.specs.Caps.{DrewCap}
 use Rattle.shape_outline.specs.Measures.{outlineIn, wallsIn}
@@ -138,7 +138,7 @@ module _ (s : List ℕ) (i outer holes : ℕ) where
         }
     closed-object false c e sides cap = absurd (false≢true c)
 
--- ---- the outline that the code has measured
+-- ---- the outline that the code has worked out
 
 pub made : (s : List ℕ) (i : ℕ) (closed : Bool) (outer holes n : ℕ) (lid : Vector) (high : Bool) → lid ≡ lidNormal (cornersAt s outer (cornersOf i holes))
     → high ≡ cond closed (hasHeight (cornersAt s n (cornersOf i holes))) false
@@ -154,8 +154,8 @@ made s i closed outer holes n lid high l h = λ z. record {
 }
 
 module _ (s : List ℕ) (i : ℕ) (closed : Bool) (outer holes n : ℕ) {o : OutlineAt} (e : o ≡ outlineIn s i closed outer holes n) (placed : Placed s i outer holes n) where
-  pub measured-in : Measured s o
-  measured-in = subst (Measured s) (sym e) (record { placed = placed; place = refl; normal = refl })
+  pub outline-holds : OutlineHolds s o
+  outline-holds = subst (OutlineHolds s) (sym e) (record { placed = placed; place = refl; normal = refl })
 
   pub high-in : closed ≡ true → o .high ≡ hasHeight (cornersAt s (o .n) (o .at))
   high-in c =

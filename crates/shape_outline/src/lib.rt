@@ -8,7 +8,7 @@ ghost use Rattle.scene_field.specs.Fields.{cornersAt};
 ghost use Rattle.face.specs.Drawing.{tally, Draws};
 ghost use Rattle.lid_plane.specs.Plane.{about};
 ghost use Rattle.shape.specs.Drawn.{DrawsObject};
-ghost use Rattle.shape_outline_corners.specs.Outlines.{CornersIn, outlineShape, Placed, Measured};
+ghost use Rattle.shape_outline_corners.specs.Outlines.{CornersIn, outlineShape, Placed, OutlineHolds};
 ghost use Rattle.shape_outline.specs.Measures.{outlineIn, wallsIn};
 use coords_vector::Vector;
 use face::Tally;
@@ -62,7 +62,7 @@ fn all_walls(
     ns: &mut [f32],
     is: &mut [u32],
 ) -> Tally
-    requires { ⌜ Measured (now s) o × (3 * before < 2 ^ 32) ⌝ }
+    requires { ⌜ OutlineHolds (now s) o × (3 * before < 2 ^ 32) ⌝ }
     ensures { λ r. ⌜ Draws limit (wallsIn (now (s .entry)) closed o) before (tally 0 0 0) r vs ns is ⌝ }
 {
     let n = o.outer as usize;

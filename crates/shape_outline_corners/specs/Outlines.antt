@@ -57,7 +57,7 @@ pub record Placed (s : List ℕ) (i outer holes n : ℕ) : Type 0 where
   pub inside : CornersIn s (cornersOf i holes) n
 
 -- what the code has worked out of it
-pub record Measured (s : List ℕ) (o : OutlineAt) : Type 0 where
+pub record OutlineHolds (s : List ℕ) (o : OutlineAt) : Type 0 where
   pub placed : Placed s (o .i) (o .outer) (o .holes) (o .n)
   pub place : o .at ≡ cornersOf (o .i) (o .holes)
   pub normal : o .lid ≡ lidNormal (cornersAt s (o .outer) (o .at))

@@ -25,7 +25,7 @@ use Rattle.lid.specs.Written.{WritesLid}
 use Rattle.lid_plane.specs.Steps.{flatOn}
 use Rattle.shape.specs.Shapes.{allCorners, flatOf, outlineLid}
 use Rattle.shape_outline_corners.specs.declared.OutlineAt.{OutlineAt}
-use Rattle.shape_outline_corners.specs.Outlines.{pointsAt, cornersOf, lidAt, Measured}
+use Rattle.shape_outline_corners.specs.Outlines.{pointsAt, cornersOf, lidAt, OutlineHolds}
 use Rattle.shape_outline_corners.proofs.CornerLaws.{map-list, tops-points}
 
 -- ---- corners laid flat
@@ -93,7 +93,7 @@ lid-at s i outer holes =
     ∙ ap (λ (c : ℕ). lidOf (flatten lid (topsOf (allCorners (cornersAt s outer at) (holesAt s counts (at + 24 * outer))))) c counts) (sym (corners-length s outer at))
     ∙ ap (lidOf (flatten lid (topsOf (allCorners (cornersAt s outer at) (holesAt s counts (at + 24 * outer))))) (length (cornersAt s outer at))) (sym (holes-size s counts (at + 24 * outer)))
 
-pub cut-lid : (s : List ℕ) (o : OutlineAt) (fs : List Flat) (counts : List ℕ) → Measured s o
+pub cut-lid : (s : List ℕ) (o : OutlineAt) (fs : List Flat) (counts : List ℕ) → OutlineHolds s o
     → fs ≡ flatten (o .lid) (pointsAt s (o .n) (o .at + 12)) → counts ≡ countsAt s (o .holes) (o .i + 4) → lidOf fs (o .outer) counts ≡ lidAt s (o .i) (o .outer) (o .holes)
 cut-lid s o fs counts m r e =
     ap₂ (λ (f : List Flat) (c : List ℕ). lidOf f (o .outer) c)
@@ -103,7 +103,7 @@ cut-lid s o fs counts m r e =
     ∙ lid-at s (o .i) (o .outer) (o .holes)
 
 -- the lid is written where the cut of the corners laid flat is, in a room whose part from the second coordinates on is lent
-pub cut-written : {log log′ ts ts′ : List ℕ} {r : LidCounts} (s : List ℕ) (o : OutlineAt) (room : List Float) (w : ℕ) (counts : List ℕ) → Measured s o
+pub cut-written : {log log′ ts ts′ : List ℕ} {r : LidCounts} (s : List ℕ) (o : OutlineAt) (room : List Float) (w : ℕ) (counts : List ℕ) → OutlineHolds s o
     → flats (take (o .n) room) (drop (o .n) room) ≡ flatten (o .lid) (pointsAt s (o .n) (o .at + 12)) → counts ≡ countsAt s (o .holes) (o .i + 4)
     → WritesLid (lidOf (flats (take (o .n) room) (take w (drop (o .n) room))) (o .outer) counts .log) (lidOf (flats (take (o .n) room) (take w (drop (o .n) room))) (o .outer) counts .triangles) log log′ 0 ts ts′ r → w ≡ length room - o .n
     → WritesLid (lidAt s (o .i) (o .outer) (o .holes) .log) (lidAt s (o .i) (o .outer) (o .holes) .triangles) log log′ 0 ts ts′ r

@@ -6,7 +6,7 @@ ghost use Rattle.scene_field.specs.Fields.{countsAt};
 ghost use Rattle.lid_plane.specs.Plane.{flatten};
 ghost use Rattle.lid.specs.Rings.{flats};
 ghost use Rattle.lid.specs.Written.{LidWritten};
-ghost use Rattle.shape_outline_corners.specs.Outlines.{pointsAt, PointsIn, lidAt, Measured};
+ghost use Rattle.shape_outline_corners.specs.Outlines.{pointsAt, PointsIn, lidAt, OutlineHolds};
 use coords_vector::Vector;
 use lid_plane_axes::first_axis;
 use lid_plane_axes::flat_corner;
@@ -52,7 +52,7 @@ pub fn cut(
     log: &mut [u32],
     triangles: &mut [u32],
 ) -> lid::LidCounts
-    requires { ⌜ Measured (now s) o × (2 * o .n ≤ length (now room)) ⌝ }
+    requires { ⌜ OutlineHolds (now s) o × (2 * o .n ≤ length (now room)) ⌝ }
     ensures { λ r. ⌜ LidWritten (lidAt (now (s .entry)) (o .i) (o .outer) (o .holes)) log 0 triangles r ⌝ }
 {
     let mut counts = [0; 32];

@@ -30,7 +30,7 @@ use Rattle.lid.specs.Written.{triangleRecord, triangleNumbers}
 use Rattle.lid.proofs.Facts.{lid-triangles, lid-corners}
 use Rattle.shape.specs.Shapes.{flatOf, outlineLid}
 use Rattle.shape_outline_corners.specs.declared.OutlineAt.{OutlineAt}
-use Rattle.shape_outline_corners.specs.Outlines.{faceAt, pointsAt, cornersOf, lidAt, Placed, Measured}
+use Rattle.shape_outline_corners.specs.Outlines.{faceAt, pointsAt, cornersOf, lidAt, Placed, OutlineHolds}
 use Rattle.shape_outline_corners.proofs.CornerLaws.{points-length}
 use Rattle.shape_outline_lid_cut.proofs.FillLaws.{fill-front}
 use Rattle.shape.proofs.Sizes.{outline-entries, price-lid}
@@ -118,7 +118,7 @@ module _ (s : List ℕ) (i outer holes n : ℕ) (p : Placed s i outer holes n) w
       (unfold outlineLid in lid-corners (flatOf cs hs) (length cs) (map length hs))
 
 -- what `lid_faces` asks of the lid's triangles, where they are written at the start of a buffer with room for them
-pub lid-asks : {s : List ℕ} {o : OutlineAt} {before count : ℕ} {t : Tally} (buffer buffer′ : List ℕ) → Measured s o → Room before t 1024 1224
+pub lid-asks : {s : List ℕ} {o : OutlineAt} {before count : ℕ} {t : Tally} (buffer buffer′ : List ℕ) → OutlineHolds s o → Room before t 1024 1224
     → count ≡ length (lidAt s (o .i) (o .outer) (o .holes) .triangles) → buffer′ ≡ sets buffer 0 (triangleNumbers (lidAt s (o .i) (o .outer) (o .holes) .triangles))
     → 3 * length (lidAt s (o .i) (o .outer) (o .holes) .triangles) ≤ length buffer
     → Room before t (2 * o .n) (2 * (length (take (3 * count) buffer′) / 3)) × Each (TriangleLow (o .n)) (trianglesIn (take (3 * count) buffer′))

@@ -13,7 +13,7 @@ ghost use Rattle.face_triangle.specs.Triangles.{trianglesIn};
 ghost use Rattle.face.specs.Drawing.{Room};
 ghost use Rattle.shape.specs.Shapes.{hasHeight};
 ghost use Rattle.shape.specs.Stages.{DrawsTwo};
-ghost use Rattle.shape_outline_corners.specs.Outlines.{pointsAt, CornersIn, PointsIn, allIn, lidIn, Measured};
+ghost use Rattle.shape_outline_corners.specs.Outlines.{pointsAt, CornersIn, PointsIn, allIn, lidIn, OutlineHolds};
 ghost use Rattle.shape_outline_lid_faces.specs.Caps.{capStages, Caps};
 use coords_vector::Vector;
 use face::Tally;
@@ -113,7 +113,7 @@ fn cap_in(
     is: &mut [u32],
     log: &mut [u32],
 ) -> Capped
-    requires { ⌜ Measured (now s) o × (o .high ≡ hasHeight (allIn (now s) o)) × Room before t 1024 1224 ⌝ }
+    requires { ⌜ OutlineHolds (now s) o × (o .high ≡ hasHeight (allIn (now s) o)) × Room before t 1024 1224 ⌝ }
     requires { ⌜ (3 * o .n ≤ length (now room)) × (3 * length (lidIn (now s) o .triangles) ≤ length (now ts)) ⌝ }
     ensures { λ r. ⌜ Caps limit (now (s .entry)) o before t r vs ns is log ⌝ }
 {
@@ -143,7 +143,7 @@ pub fn cap(
     is: &mut [u32],
     log: &mut [u32],
 ) -> Capped
-    requires { ⌜ Measured (now s) o × (o .high ≡ hasHeight (allIn (now s) o)) × Room before t 1024 1224 ⌝ }
+    requires { ⌜ OutlineHolds (now s) o × (o .high ≡ hasHeight (allIn (now s) o)) × Room before t 1024 1224 ⌝ }
     ensures { λ r. ⌜ Caps limit (now (s .entry)) o before t r vs ns is log ⌝ }
 {
     if (o.n as usize) + 3 * o.holes <= 32 {

@@ -4,17 +4,17 @@ use mathlib.Core.List.{List}
 use Prim.Native.Nat.{suc, _+_, _*_}
 use native.Mathlib.Omega.{arith}
 use lib.Dec.{lit<}
-use Rattle.mesh.specs.Demand3.{measured}
+use Rattle.mesh.specs.Demand3.{prefixes}
 use Rattle.mesh.specs.Mesh.{Span, Account, spanRecord, spanNumbers, spanAt, spansIn, accountRecord, accountNumbers, accountAt, accountsIn}
 use Rattle.mesh.specs.PerBuffer.{each, at, Buffers}
 use Rattle.mesh.specs.Operations.{countsOf, overlay}
 use Rattle.lists.proofs.Buffers.{take-over, Reads, records-back, past}
 
--- ---- the measured first part of a buffer is what was written, whatever the buffer held
+-- ---- the first numbers of a buffer, as many as were written, are those written, whatever the buffer held
 
-pub measured-is-written : (written b : Buffers) → measured (countsOf written) (overlay written b) ≡ written
-unfolding measured countsOf overlay
-measured-is-written w b = λ i. each (λ k. take-over (at w k) (at b k) i)
+pub prefixes-written : (written b : Buffers) → prefixes (countsOf written) (overlay written b) ≡ written
+unfolding prefixes countsOf overlay
+prefixes-written w b = λ i. each (λ k. take-over (at w k) (at b k) i)
 
 -- ---- spans and accounts
 

@@ -1,7 +1,7 @@
 -- `shape_outline::outline` meets its contract. Assumes nothing.
 use mathlib.Core.Path.{_∙_}
 use native.Mathlib.Omega.{arith}
-use Rattle.shape_outline.proofs.OutlineLaws.{measured-in, high-in, room-in, open-in, closed-in}
+use Rattle.shape_outline.proofs.OutlineLaws.{outline-holds, high-in, room-in, open-in, closed-in}
 use Rattle.shape_outline.proofs.outline.Statement.{statement}
 use Rattle.shape_outline.proofs.outline.Tie as tie
 
@@ -9,14 +9,14 @@ all-walls-requires : tie.Need-all-walls-requires
 all-walls-requires c κs =
     let p = c .before .before .before .before .before .before .before .before .before .pre in
     let a = c .before .before .before .before .before .before .before .before .before .args in
-    (measured-in (a .s .now) (a .i) (a .closed) (a .outer) (a .holes) (a .corners) (c .before .before .before .outline-at .ensures) (p .0), p .1)
+    (outline-holds (a .s .now) (a .i) (a .closed) (a .outer) (a .holes) (a .corners) (c .before .before .before .outline-at .ensures) (p .0), p .1)
 
 cap-requires : tie.Need-cap-requires
 cap-requires c κs =
     let p = c .before .before .before .before .before .before .before .before .before .before .before .before .before .before .before .before .before .before .before .before .before .pre in
     let a = c .before .before .before .before .before .before .before .before .before .before .before .before .before .before .before .before .before .before .before .before .before .args in
     let e = c .before .before .before .before .before .before .before .before .before .before .before .before .before .before .before .outline-at .ensures in
-    (measured-in (a .s .now) (a .i) (a .closed) (a .outer) (a .holes) (a .corners) e (p .0), high-in (a .s .now) (a .i) (a .closed) (a .outer) (a .holes) (a .corners) e (p .0) (c .before .before .before .before .if1 .taken), room-in (a .s .now) (a .i) (a .closed) (a .outer) (a .holes) (a .corners) e (p .0) (p .1) (c .before .before .before .before .before .before .before .before .before .before .before .all-walls .ensures))
+    (outline-holds (a .s .now) (a .i) (a .closed) (a .outer) (a .holes) (a .corners) e (p .0), high-in (a .s .now) (a .i) (a .closed) (a .outer) (a .holes) (a .corners) e (p .0) (c .before .before .before .before .if1 .taken), room-in (a .s .now) (a .i) (a .closed) (a .outer) (a .holes) (a .corners) e (p .0) (p .1) (c .before .before .before .before .before .before .before .before .before .before .before .all-walls .ensures))
 
 returns : tie.Need-returns
 returns c =
@@ -26,7 +26,7 @@ returns c =
 open-price-requires : tie.Need-open-price-requires
 open-price-requires c κs =
     let a = c .before .before .before .before .before .before .before .before .before .before .before .before .before .before .before .before .before .args in
-    let m = measured-in (a .s .now) (a .i) (a .closed) (a .outer) (a .holes) (a .corners) (c .before .before .before .before .before .before .before .before .before .before .before .outline-at .ensures) (c .before .before .before .before .before .before .before .before .before .before .before .before .before .before .before .before .before .pre .0) in
+    let m = outline-holds (a .s .now) (a .i) (a .closed) (a .outer) (a .holes) (a .corners) (c .before .before .before .before .before .before .before .before .before .before .before .outline-at .ensures) (c .before .before .before .before .before .before .before .before .before .before .before .before .before .before .before .before .before .pre .0) in
     (omega (arith, m .placed .counted .total), omega (arith, m .placed .counted .most))
 
 returns-2 : tie.Need-returns-2
