@@ -8,7 +8,7 @@ use lib.IntN.{ℤ, pos, negsuc, natAbs}
 use lib.ListN.{length, set, length-set}
 use lib.Seq.{sets, set-set, length-sets}
 use Rattle.decimal.specs.Decimals.{decimal, integer}
-use Rattle.decimal.specs.Texts.{Room, Wrote}
+use Rattle.decimal.specs.Texts.{HasRoom, Wrote}
 use Rattle.decimal.proofs.Digits.{decimal-one, decimal-two, decimal-two-more, size-two-more, some-digit}
 use Rattle.decimal.proofs.Texts.{end-first}
 
@@ -40,7 +40,7 @@ module _ (old : List ℕ) (at n : ℕ) where
     pub long : length text ≡ length old
     pub within : i ≤ length old
 
-  pub ending-start : (next : ℕ) → Room old at (decimal n) → next ≡ length (decimal n) → Ending old (at + next) n
+  pub ending-start : (next : ℕ) → HasRoom old at (decimal n) → next ≡ length (decimal n) → Ending old (at + next) n
   ending-start next h e = record { place = ap (λ (k : ℕ). at + k) e; same = refl; long = refl; within = omega arith }
 
   pub ending-next : (text : List ℕ) (i rest : ℕ) {text′ : List ℕ} → 100 ≤ rest → text′ ≡ sets text (i - 2) ((48 + rest % 100 / 10) ∷ (48 + rest % 100 % 10) ∷ []) → Ending text i rest → Ending text′ (i - 2) (rest / 100)
@@ -60,7 +60,7 @@ module _ (old : List ℕ) (at n : ℕ) where
   pub two-before : (text : List ℕ) (i rest : ℕ) → 100 ≤ rest → Ending text i rest → (2 ≤ i) × (i ≤ length text)
   two-before text i rest h g = (omega (arith, size-two-more rest h, g .place), omega (arith, g .within, g .long))
 
-  pub ending-room : (text : List ℕ) (i rest : ℕ) → Ending text i rest → Room text at (decimal rest)
+  pub ending-room : (text : List ℕ) (i rest : ℕ) → Ending text i rest → HasRoom text at (decimal rest)
   ending-room text i rest g = omega (arith, g .place, g .within, g .long)
 
   pub ending-end : (text : List ℕ) (i rest next : ℕ) (last : List ℕ) → next ≡ length (decimal n) → Ending text i rest → Wrote text at (decimal rest) last (at + length (decimal rest)) → Wrote old at (decimal n) last (at + next)
@@ -72,7 +72,7 @@ overwritten : (l : List ℕ) (i x : ℕ) (w : List ℕ) → 1 ≤ length w → s
 overwritten l i x [] h = absurd (omega arith)
 overwritten l i x (y ∷ w) h = ap (λ (m : List ℕ). sets m (suc i) w) (set-set l i x y)
 
-pub sign-room : (x : ℤ) (old : List ℕ) (at size : ℕ) → size + length (decimal (natAbs x)) ≡ length (integer x) → Room old at (integer x) → Room (set old at 45) (at + size) (decimal (natAbs x))
+pub sign-room : (x : ℤ) (old : List ℕ) (at size : ℕ) → size + length (decimal (natAbs x)) ≡ length (integer x) → HasRoom old at (integer x) → HasRoom (set old at 45) (at + size) (decimal (natAbs x))
 sign-room x old at size e h = omega (arith, length-set old at 45)
 
 pub sign-place : (x : ℤ) → 1 ≤ length (integer x)

@@ -8,7 +8,7 @@ use native.Mathlib.Omega.{arith}
 use lib.ListN.{length, set, length-append, length-set}
 use lib.Seq.{sets, set-comm, length-sets}
 use Rattle.lists.proofs.Stores.{sets-append}
-use Rattle.decimal.specs.Texts.{Wrote, Room}
+use Rattle.decimal.specs.Texts.{Wrote, HasRoom}
 
 module _ {A : Type 0} where
   -- a store behind a run may come first
@@ -41,18 +41,18 @@ pub same-length : {old text : List ℕ} {at next : ℕ} {a : List ℕ} → Wrote
 same-length {old} {at = at} {a = a} w = ap length (w .stored) ∙ length-sets old at a
 
 -- the room that is left for b behind a
-pub room-behind : {old text : List ℕ} {at next : ℕ} {a : List ℕ} (b : List ℕ) → Wrote old at a text next → Room old at (a ++ b) → Room text next b
+pub room-behind : {old text : List ℕ} {at next : ℕ} {a : List ℕ} (b : List ℕ) → Wrote old at a text next → HasRoom old at (a ++ b) → HasRoom text next b
 room-behind {a = a} b w h = omega (arith, length-append a b, same-length w, w .place, h)
 
 -- where the bytes are known by an equation
 pub wrote-as : {old text : List ℕ} {at next : ℕ} {a b : List ℕ} → a ≡ b → Wrote old at b text next → Wrote old at a text next
 wrote-as {old} {text} {at} {next} e w = subst (λ (l : List ℕ). Wrote old at l text next) (sym e) w
 
-pub room-as : {a b : List ℕ} (text : List ℕ) (at : ℕ) → a ≡ b → Room text at a → Room text at b
-room-as text at e h = subst (λ (l : List ℕ). Room text at l) e h
+pub room-as : {a b : List ℕ} (text : List ℕ) (at : ℕ) → a ≡ b → HasRoom text at a → HasRoom text at b
+room-as text at e h = subst (λ (l : List ℕ). HasRoom text at l) e h
 
 -- the room for a first part
-pub room-first : (text : List ℕ) (at : ℕ) (a b : List ℕ) → Room text at (a ++ b) → Room text at a
+pub room-first : (text : List ℕ) (at : ℕ) (a b : List ℕ) → HasRoom text at (a ++ b) → HasRoom text at a
 room-first text at a b h = omega (arith, length-append a b)
 
 -- ---- a text of which `todo` is still to be written, of all that goes behind place `at` of the old one
@@ -79,5 +79,5 @@ pub writing-end : {old all text todo : List ℕ} {at next : ℕ} → todo ≡ []
 writing-end {text = text} {next = next} e g =
     record { place = omega (arith, g .place, ap length e); stored = sym (ap (sets text next) e) ∙ g .same }
 
-pub writing-room : {old all text todo : List ℕ} {at next : ℕ} (w rest : List ℕ) → todo ≡ w ++ rest → Writing old at all text next todo → Room old at all → Room text next w
+pub writing-room : {old all text todo : List ℕ} {at next : ℕ} (w rest : List ℕ) → todo ≡ w ++ rest → Writing old at all text next todo → HasRoom old at all → HasRoom text next w
 writing-room w rest e g h = omega (arith, g .place, g .long, length-append w rest, ap length e)

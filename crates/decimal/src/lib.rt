@@ -6,7 +6,7 @@ ghost use lib.IntN.{natAbs};
 ghost use lib.ListN.{length};
 ghost use lib.Seq.{sets};
 ghost use Rattle.decimal.specs.Decimals.{decimal, integer, tenTo};
-ghost use Rattle.decimal.specs.Texts.{Room, Wrote};
+ghost use Rattle.decimal.specs.Texts.{HasRoom, Wrote};
 
 // 10^k, but 0 at 0. A match is compiled to a table, where an array would be copied at each call.
 fn ten_to(k: u64) -> u64
@@ -205,7 +205,7 @@ fn digit(d: u64) -> u8
 // A number of one or two digits. (The pairs are used at one place only, so that they are compiled
 // into it.)
 fn put_short(text: &mut [u8], at: usize, n: u64)
-    requires { ⌜ (n < 100) × Room (now text) at (decimal n) ⌝ }
+    requires { ⌜ (n < 100) × HasRoom (now text) at (decimal n) ⌝ }
     ensures { λ _. ⌜ Wrote (now (text .entry)) at (decimal n) (now (text .exit)) (at + length (decimal n)) ⌝ }
 {
     if n < 10 {
@@ -218,7 +218,7 @@ fn put_short(text: &mut [u8], at: usize, n: u64)
 
 // n from a place on, two digits at a time from the end; answers the next place.
 pub fn put_decimal(text: &mut [u8], at: usize, n: u64) -> usize
-    requires { ⌜ Room (now text) at (decimal n) ⌝ }
+    requires { ⌜ HasRoom (now text) at (decimal n) ⌝ }
     ensures { λ r. ⌜ Wrote (now (text .entry)) at (decimal n) (now (text .exit)) r ⌝ }
 {
     let next = at + decimal_size(n);
@@ -237,7 +237,7 @@ pub fn put_decimal(text: &mut [u8], at: usize, n: u64) -> usize
 // The sign is stored in any case: where there is none, the first digit goes over it. So no branch
 // depends on the sign.
 pub fn put_integer(text: &mut [u8], at: usize, x: i64) -> usize
-    requires { ⌜ Room (now text) at (integer x) ⌝ }
+    requires { ⌜ HasRoom (now text) at (integer x) ⌝ }
     ensures { λ r. ⌜ Wrote (now (text .entry)) at (integer x) (now (text .exit)) r ⌝ }
 {
     text[at] = b'-';

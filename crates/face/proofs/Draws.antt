@@ -1,4 +1,4 @@
--- Drawing one after the other: faces drawn behind faces are all of them drawn; what drawing leaves of the room; that it keeps the buffers' lengths. Assumes nothing.
+-- Drawing one after the other: faces drawn behind faces are all of them drawn; how many vertices and triangles more can be counted after it; that it keeps the buffers' lengths. Assumes nothing.
 use mathlib.Core.Path.{_≡_, refl, sym, ap, ap₂, _∙_}
 use Prim.Native.Nat.{ℕ, _+_, _*_, _≤_, zero-le}
 use native.Mathlib.Nat.{add-assoc, add-zero, le-refl}
@@ -15,13 +15,13 @@ use Rattle.coords_vector.specs.declared.Vector.{Vector}
 use Rattle.coords.specs.Buffers.{vertexRecord, vertexNumbers, normalRecord, normalNumbers}
 use Rattle.face.specs.declared.Tally.{Tally}
 use Rattle.face.specs.Faces.{Triangle, Face, Piece, thinIn, keptOf, faceNormal, nothing, behind, writeKept, writeFace, writeFaces}
-use Rattle.face.specs.Drawing.{tally, Drawing, drawing, counted, drawn, Drew, Room}
+use Rattle.face.specs.Drawing.{tally, Drawing, drawing, counted, drawn, Drew, Countable}
 use Rattle.face.proofs.Counts.{count, faces-account}
 use Rattle.face.proofs.Written.{write-size}
 
--- less room in what room there is
-pub room-less : {before : ℕ} {t : Tally} {v k w j : ℕ} → Room before t w j → v ≤ w → k ≤ j → Room before t v k
-room-less r p q = record { vertices = omega (arith, r .vertices); kept = omega (arith, r .kept); thin = omega (arith, r .thin) }
+-- fewer can be counted where more can
+pub countable-less : {before : ℕ} {t : Tally} {v k w j : ℕ} → Countable before t w j → v ≤ w → k ≤ j → Countable before t v k
+countable-less r p q = record { vertices = omega (arith, r .vertices); kept = omega (arith, r .kept); thin = omega (arith, r .thin) }
 
 pub same-drawing : {t t′ : Tally} {vs vs′ ns ns′ : List Float} {is is′ : List ℕ} → t ≡ t′ → vs ≡ vs′ → ns ≡ ns′ → is ≡ is′ → drawing t vs ns is ≡ drawing t′ vs′ ns′ is′
 same-drawing a b c d = cc
@@ -121,10 +121,10 @@ module _ (limit : Float) where
     unfolding drawn
     drew-tally p = ap (λ (x : Drawing). x .tally) (p .after)
 
-    -- the room that is left for v vertices and k triangles more
-    pub drew-room : {w j v k : ℕ} → Room before (d .tally) w j → Drew limit fs before d d′ → sumOf (λ f. length (f .points)) fs + v ≤ w → sumOf count fs + k ≤ j → Room before (d′ .tally) v k
+    -- v vertices and k triangles more can still be counted
+    pub drew-countable : {w j v k : ℕ} → Countable before (d .tally) w j → Drew limit fs before d d′ → sumOf (λ f. length (f .points)) fs + v ≤ w → sumOf count fs + k ≤ j → Countable before (d′ .tally) v k
     unfolding counted
-    drew-room r p h g =
+    drew-countable r p h g =
         let e = drew-tally p in
         let x = ap (λ (t : Tally). t .vertices) e in
         let y = ap (λ (t : Tally). t .kept) e in

@@ -59,8 +59,8 @@ Draws limit faces before t r vs ns is = Drew limit faces before (atEntry t vs ns
 abbrev pub DrawsFace : Float → (ℕ → Face) → ℕ → Tally → Tally → Slice Float → Slice Float → Slice ℕ → Type 0
 DrawsFace limit face before t r vs ns is = (part : ℕ) → Draws limit (face part ∷ []) before t r vs ns is
 
--- v vertices and k triangles more stay below 2 ^ 32
-pub record Room (before : ℕ) (t : Tally) (v k : ℕ) : Type 0 where
+-- v vertices and k triangles more can be counted: all counts stay below 2 ^ 32
+pub record Countable (before : ℕ) (t : Tally) (v k : ℕ) : Type 0 where
   pub vertices : before + t .vertices + v < 2 ^ 32
   pub kept : t .kept + k < 2 ^ 32
   pub thin : t .thin + k < 2 ^ 32

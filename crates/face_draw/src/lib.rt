@@ -6,7 +6,7 @@ ghost use lib.ListN.{length};
 ghost use Rattle.coords.specs.Buffers.{verticesIn};
 ghost use Rattle.face_judge.specs.Offered.{TrianglesAmong};
 ghost use Rattle.face.specs.Faces.{quad};
-ghost use Rattle.face.specs.Drawing.{faceIn, Room, DrawsFace};
+ghost use Rattle.face.specs.Drawing.{faceIn, Countable, DrawsFace};
 ghost use Rattle.face_draw.specs.Sums.{countedWith, StoresKept};
 use coords::Point;
 use coords_vector::Vector;
@@ -61,7 +61,7 @@ pub fn face(
     ns: &mut [f32],
     is: &mut [u32],
 ) -> Tally
-    requires { ⌜ Room before t (length (now points) / 3) (length (now triangles) / 3) × TrianglesAmong (now points) (now triangles) ⌝ }
+    requires { ⌜ Countable before t (length (now points) / 3) (length (now triangles) / 3) × TrianglesAmong (now points) (now triangles) ⌝ }
     ensures { λ r. ⌜ DrawsFace limit (λ part. faceIn part (now (points .entry)) (now (triangles .entry)) out) before t r vs ns is ⌝ }
 {
     let base = before + t.vertices;
@@ -85,7 +85,7 @@ pub fn quad(
     ns: &mut [f32],
     is: &mut [u32],
 ) -> Tally
-    requires { ⌜ Room before t 4 2 ⌝ }
+    requires { ⌜ Countable before t 4 2 ⌝ }
     ensures { λ r. ⌜ DrawsFace limit (λ part. quad part a b c d out) before t r vs ns is ⌝ }
 {
     if (vs.len() == 0) & (ns.len() == 0) & (is.len() == 0) {

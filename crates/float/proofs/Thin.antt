@@ -137,14 +137,14 @@ square-value m d y P l k v =
     subst (λ (z : Float). HasValue z false (a * a) (2 ^ 302)) (sym (mul-at binary64 m m a (2 ^ 151) a (2 ^ 151) p p (pow-pos 151) (pow-pos 151) v v))
     (round-exact binary64 false (a * a) (2 ^ 302) (d * d) (y + y + 772) (pow-pos 302) (lt-of-le-of-lt (mul-le-mul (le-of-lt l) (le-of-lt l)) (lit< tt))
     (lt-of-le-of-lt (mul-le-mul-right (2 ^ (y + y + 772)) (mul-le-mul (le-of-lt l) (le-of-lt l)))
-    (lt-of-le-of-lt (le-of-eq (sym (pow-add 2 50 (y + y + 772)))) (pow-lt (room y k))))
+    (lt-of-le-of-lt (le-of-eq (sym (pow-add 2 50 (y + y + 772)))) (pow-lt (below-top y k))))
     (ap (λ (n : ℕ). n * 2 ^ 1074) (mul-mul-mul-comm d (2 ^ y) d (2 ^ y) ∙ ap (λ (n : ℕ). d * d * n) (sym (pow-add 2 y y)))
     ∙ mul-assoc (d * d) (2 ^ (y + y)) (2 ^ 1074)
     ∙ ap (λ (n : ℕ). d * d * n) (sym (pow-add 2 (y + y) 1074) ∙ ap (λ (n : ℕ). 2 ^ n) (sums y) ∙ pow-add 2 (y + y + 772) 302)
     ∙ sym (mul-assoc (d * d) (2 ^ (y + y + 772)) (2 ^ 302))))
   where
-    room : (y : ℕ) → y < 256 → 50 + (y + y + 772) < 2098
-    room y h = omega arith
+    below-top : (y : ℕ) → y < 256 → 50 + (y + y + 772) < 2098
+    below-top y h = omega arith
 
     sums : (y : ℕ) → y + y + 1074 ≡ y + y + 772 + 302
     sums y = omega arith

@@ -22,15 +22,15 @@ use Rattle.lid.specs.declared.Flat.{Flat}
 use Rattle.lid_plane.specs.Plane.{topsOf, areaNormal, riseStep, rise, lidSide, lidNormal, firstAxis, flatten}
 use Rattle.lid.specs.Rings.{flat0, corner, turn, turnOf}
 use Rattle.lists.proofs.Lists.{each-map, each-getD}
-use Rattle.float.proofs.Within.{Within, room, room-of, sub-within, mul-within}
+use Rattle.float.proofs.Within.{Within, covers, covers-of, sub-within, mul-within}
 use Rattle.coords.proofs.Near.{NearP, NearV, nearV-up, plus-near, less-near, opposite-near, dot-within, cross-near, diff-near, scale-near, zero-near, unitX-near, unitZ-near}
 use Rattle.coords.proofs.Lengths.{unit-near}
 use Rattle.object.proofs.Near.{NearC}
 
 -- ---- sums of up to 2 ^ 16 terms, each at most 2 ^ j
-one-more : (m j : ℕ) → suc m ≤ 65536 → j ≤ 100 → T (room binary32 (m * 2 ^ j + 1 * 2 ^ j) (suc m) j)
+one-more : (m j : ℕ) → suc m ≤ 65536 → j ≤ 100 → T (covers binary32 (m * 2 ^ j + 1 * 2 ^ j) (suc m) j)
 one-more m j h k =
-    room-of binary32 (m * 2 ^ j + 1 * 2 ^ j) (suc m) j (omega arith) (lt-of-le-of-lt h (lit< tt))
+    covers-of binary32 (m * 2 ^ j + 1 * 2 ^ j) (suc m) j (omega arith) (lt-of-le-of-lt h (lit< tt))
     (lt-of-le-of-lt (mul-le-mul h (pow-mono k)) (lit< tt))
 
 loop-near : (f : ℕ → Vector) (j : ℕ) → j ≤ 100 → ((i : ℕ) → NearV 1 j (f i)) → (n k m : ℕ) (s : Vector) → m + n ≤ 65536 → NearV m j s → NearV (m + n) j (loop (λ i sum. plus sum (f i)) n k s)

@@ -13,7 +13,7 @@ use Rattle.object.specs.declared.Extent.the-variants.{Box, Cylinder, Uns
 use Rattle.object.specs.declared.Section.{Section}
 use Rattle.object.specs.declared.Orientation.{Orientation}
 use Rattle.object.specs.Object.{Shape, solid, outline, sweep, roundSweep, frame}
-use Rattle.float.proofs.Within.{Within, room, neg-within, add-within, sub-within, mul-within, convert-within}
+use Rattle.float.proofs.Within.{Within, covers, neg-within, add-within, sub-within, mul-within, convert-within}
 use Rattle.coords.proofs.Near.{NearP, NearV}
 
 -- ---- solids
@@ -25,17 +25,17 @@ pub record Paired (t : Orientation) : Type 0 where
   pub sr : Within 1 0 (t .roll .sin)
   pub cr : Within 1 0 (t .roll .cos)
 
-narrowed : {q j : ℕ} (x : Float) (r k : ℕ) → Within q j x → T (room binary32 (q * 2 ^ j) r k) → Within r k (narrow x)
+narrowed : {q j : ℕ} (x : Float) (r k : ℕ) → Within q j x → T (covers binary32 (q * 2 ^ j) r k) → Within r k (narrow x)
 narrowed x r k w t = convert-within binary32 r k w t
 
 -- a sum and a difference of two products with numbers of at most 1, in f64
 sum-of : {a b c d : Float} {p i q j : ℕ} (r k : ℕ) → Within p i a → Within 1 0 b → Within q j c → Within 1 0 d
-    → T (room binary64 (p * 2 ^ i * (1 * 2 ^ 0)) p i) → T (room binary64 (q * 2 ^ j * (1 * 2 ^ 0)) q j) → T (room binary64 (p * 2 ^ i + q * 2 ^ j) r k)
+    → T (covers binary64 (p * 2 ^ i * (1 * 2 ^ 0)) p i) → T (covers binary64 (q * 2 ^ j * (1 * 2 ^ 0)) q j) → T (covers binary64 (p * 2 ^ i + q * 2 ^ j) r k)
     → Within r k (add binary64 (mul binary64 a b) (mul binary64 c d))
 sum-of {p = p} {i = i} {q = q} {j = j} r k a b c d s t u = add-within binary64 r k (mul-within binary64 p i a b s) (mul-within binary64 q j c d t) u
 
 difference-of : {a b c d : Float} {p i q j : ℕ} (r k : ℕ) → Within p i a → Within 1 0 b → Within q j c → Within 1 0 d
-    → T (room binary64 (p * 2 ^ i * (1 * 2 ^ 0)) p i) → T (room binary64 (q * 2 ^ j * (1 * 2 ^ 0)) q j) → T (room binary64 (p * 2 ^ i + q * 2 ^ j) r k)
+    → T (covers binary64 (p * 2 ^ i * (1 * 2 ^ 0)) p i) → T (covers binary64 (q * 2 ^ j * (1 * 2 ^ 0)) q j) → T (covers binary64 (p * 2 ^ i + q * 2 ^ j) r k)
     → Within r k (sub binary64 (mul binary64 a b) (mul binary64 c d))
 difference-of {p = p} {i = i} {q = q} {j = j} r k a b c d s t u = sub-within binary64 r k (mul-within binary64 p i a b s) (mul-within binary64 q j c d t) u
 

@@ -5,14 +5,14 @@ ghost use mathlib.Core.List.{_++_};
 ghost use Prim.Native.Nat.{_+_, _≤_};
 ghost use lib.ListN.{length};
 ghost use Rattle.decimal.specs.Decimals.{decimal};
-ghost use Rattle.decimal.specs.Texts.{Room, Wrote};
+ghost use Rattle.decimal.specs.Texts.{HasRoom, Wrote};
 ghost use Rattle.quote_lines.specs.Lines.{refusedLine, accountLine, countsLine, isOk, verdictLine};
 use decimal::put_decimal;
 use validate::Validation;
 use validate::Verdict;
 
 fn put_word(text: &mut [u8], at: usize, word: &[u8]) -> usize
-    requires { ⌜ Room (now text) at (now word) ⌝ }
+    requires { ⌜ HasRoom (now text) at (now word) ⌝ }
     ensures { λ r. ⌜ Wrote (now (text .entry)) at (now (word .entry)) (now (text .exit)) r ⌝ }
 {
     let mut i = 0;

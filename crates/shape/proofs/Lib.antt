@@ -5,5 +5,5 @@ pub mod Corners
 pub mod Prices
 pub mod Flats
 pub mod Sizes
-pub mod Rooms
+pub mod Sized
 pub mod Stages

@@ -26,7 +26,7 @@ use Rattle.scene_field.specs.Fields.{pointAt, countsAt, cornersAt, holesAt, sec
 use Rattle.scene.specs.Headers.{bodySize, orientationOf, shapeOf, Limits}
 use Rattle.scene.proofs.Parts.{holes-length, corners-count, sections-length, counts-length}
 use Rattle.face.specs.Faces.{Triangle, Face, quad, fan}
-use Rattle.face.specs.Drawing.{tally, Room}
+use Rattle.face.specs.Drawing.{tally, Countable}
 use Rattle.face.proofs.Counts.{count}
 use Rattle.lid_plane.specs.Plane.{topsOf, basesOf, lidNormal, about}
 use Rattle.lid.specs.Rings.{turnOf}
@@ -322,14 +322,14 @@ body-sized s i (Sweep true n) l =
     let e = sections-length s n (i + 2) in
     record { points = omega (arith, round-points ss); triangles = omega (arith, offered-count (roundSweep ss), round-most ss); entries = omega arith; log = omega arith }
 
--- what `draw` may count on: room for all points and triangles, and counts that fit u32
-pub record HasRoom (before : ℕ) (sh : Shape) : Type 0 where
-  pub room : Room before (tally 0 0 0) (sumOf points (facesOf sh)) (sumOf count (facesOf sh))
+-- what `draw` may rely on: all points, triangles and offered triangles can be counted
+pub record CanCount (before : ℕ) (sh : Shape) : Type 0 where
+  pub countable : Countable before (tally 0 0 0) (sumOf points (facesOf sh)) (sumOf count (facesOf sh))
   pub offered : offered sh < 2 ^ 32
   pub entries : length (logOf sh) ≤ 609
 
-pub can-draw-room : (s : List ℕ) (i : ℕ) (body : Body) (before : ℕ) → CanDraw s i body before → HasRoom before (shapeOf s i body)
-can-draw-room s i body before c =
+pub can-draw-counted : (s : List ℕ) (i : ℕ) (body : Body) (before : ℕ) → CanDraw s i body before → CanCount before (shapeOf s i body)
+can-draw-counted s i body before c =
     let z = body-sized s i body (c .limits) in
     let p = z .points in
     let t = z .triangles in
@@ -337,7 +337,7 @@ can-draw-room s i body before c =
     let n = c .short in
     let f = c .few in
     record {
-      room = record { vertices = omega arith; kept = omega arith; thin = omega arith };
+      countable = record { vertices = omega arith; kept = omega arith; thin = omega arith };
       offered = omega (arith, offered-count (shapeOf s i body));
       entries = z .log;
     }

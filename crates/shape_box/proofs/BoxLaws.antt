@@ -1,4 +1,4 @@
--- The faces of a box: their points and triangles, the room that they leave, and the whole drawn face by face. Assumes nothing.
+-- The faces of a box: their points and triangles, how many more can be counted behind them, and the whole drawn face by face. Assumes nothing.
 use mathlib.Core.Path.{_≡_, refl, sym, ap, _∙_, subst, subst₂}
 use mathlib.Core.Bool.{true, false}
 use mathlib.Core.List.{List, [], _∷_, _++_, append-nil}
@@ -18,15 +18,15 @@ use Rattle.coords_vector.specs.Vectors.{negate}
 use Rattle.object.specs.declared.Orientation.{Orientation}
 use Rattle.object.specs.Object.{frame}
 use Rattle.face.specs.Faces.{fan, quad}
-use Rattle.face.specs.Drawing.{tally, Drawing, Drew, Room}
-use Rattle.face.proofs.Draws.{room-less}
+use Rattle.face.specs.Drawing.{tally, Drawing, Drew, Countable}
+use Rattle.face.proofs.Draws.{countable-less}
 use Rattle.lists.proofs.Stores.{sets-append}
 use Rattle.face.specs.declared.Tally.{Tally}
 use Rattle.shape.specs.Shapes.{Axis, onAxis, alongX, alongY, alongZ, boxFace}
 use Rattle.shape.specs.Stages.{PartRun, sideStages, boxStages, DrewStages, lastOf}
 use Rattle.shape_box.specs.declared.Placed.{Placed}
 use Rattle.shape_box.specs.Axes.{axisNo, depthNo, sidesNo, boxTo}
-use Rattle.shape.proofs.Rooms.{Sized, sized-append, sized-cond, room-left}
+use Rattle.shape.proofs.Sized.{Sized, sized-append, sized-cond, countable-left}
 use Rattle.shape.proofs.Stages.{stages-none, stages-first, stages-empty, stages-then}
 
 none-sized : (v k : ℕ) → Sized [] v k
@@ -88,17 +88,17 @@ pub record Drawn (limit : Float) (b : Placed) (before : ℕ) (d d′ : Drawing) 
   pub size : length tallies ≡ 2 * k
   pub stored : after ≡ sets old 0 tallies
   pub drew : DrewStages limit (boxTo b k) before d d′ tallies
-  pub room : Room before (d′ .tally) (8 * (3 - k)) (4 * (3 - k))
+  pub countable : Countable before (d′ .tally) (8 * (3 - k)) (4 * (3 - k))
   pub last : (j : ℕ) → length tallies ≡ suc j → getD tallies j (tally 0 0 0) ≡ d′ .tally
 
 module _ (limit : Float) (b : Placed) (before : ℕ) (d : Drawing) (old : List Tally) where
-  pub drawn-start : Room before (d .tally) 24 12 → Drawn limit b before d d old old 0
+  pub drawn-start : Countable before (d .tally) 24 12 → Drawn limit b before d d old old 0
   unfolding boxTo
-  drawn-start r = record { tallies = []; size = refl; stored = refl; drew = stages-none limit; room = r; last = λ j e. absurd (omega arith) }
+  drawn-start r = record { tallies = []; size = refl; stored = refl; drew = stages-none limit; countable = r; last = λ j e. absurd (omega arith) }
 
   module _ {d′ : Drawing} {after : List Tally} {k : ℕ} (t : Drawn limit b before d d′ old after k) (h : k < 3) where
-    pub drawn-room : Room before (d′ .tally) 8 4
-    drawn-room = room-less (t .room) (omega arith) (omega arith)
+    pub drawn-countable : Countable before (d′ .tally) 8 4
+    drawn-countable = countable-less (t .countable) (omega arith) (omega arith)
 
     pub drawn-next : {d″ : Drawing} {x : Tally} → DrewStages limit (sidesNo b k) before d′ d″ (x ∷ d″ .tally ∷ [])
         → Drawn limit b before d d″ old (set (set after (2 * k) x) (2 * k + 1) (d″ .tally)) (k + 1)
@@ -108,7 +108,7 @@ module _ (limit : Float) (b : Placed) (before : ℕ) (d : Drawing) (old : List T
       size = omega (arith, t .size, length-append (t .tallies) (x ∷ d″ .tally ∷ []));
       stored = rw (t .stored) (two-behind old (t .tallies) x (d″ .tally) (2 * k) (sym (t .size)));
       drew = rw (add-one k) (stages-then limit (t .drew) s);
-      room = room-left limit (t .room) (s .drew) (box-sides-sized (b .origin) (b .turn) (b .length) (b .width) (b .height) (axisNo k) (depthNo b k) (11 + 2 * k)) (omega arith) (omega arith);
+      countable = countable-left limit (t .countable) (s .drew) (box-sides-sized (b .origin) (b .turn) (b .length) (b .width) (b .height) (axisNo k) (depthNo b k) (11 + 2 * k)) (omega arith) (omega arith);
       last = λ j e. let at : j ≡ suc (length (t .tallies)) = omega (arith, length-append (t .tallies) (x ∷ d″ .tally ∷ [])) in rw (at) (last-of (t .tallies) x (d″ .tally) (tally 0 0 0));
     }
 

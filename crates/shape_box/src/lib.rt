@@ -4,7 +4,7 @@ ghost use mathlib.Core.List.{[], _∷_};
 ghost use Prim.Native.Nat.{ℕ};
 ghost use Rattle.float.specs.Number.{zerof, onef};
 ghost use Rattle.object.specs.Object.{frame};
-ghost use Rattle.face.specs.Drawing.{Room};
+ghost use Rattle.face.specs.Drawing.{Countable};
 ghost use Rattle.shape.specs.Shapes.{onAxis, boxPoint, boxFace};
 ghost use Rattle.shape.specs.Stages.{boxStages, DrawsStages, DrawsTwo};
 ghost use Rattle.shape_box.specs.Axes.{axisOf, axisNo, depthNo, sidesOf};
@@ -113,7 +113,7 @@ fn box_sides(
     ns: &mut [f32],
     is: &mut [u32],
 ) -> Sides
-    requires { ⌜ Room before t 8 4 ⌝ }
+    requires { ⌜ Countable before t 8 4 ⌝ }
     ensures { λ r. ⌜ ((part : ℕ) → DrawsTwo limit (sidesOf b axis depth part) before t (r .along) (r .against) vs ns is) ⌝ }
 {
     let out = direction(b.turn, axis);
@@ -170,7 +170,7 @@ pub fn cuboid(
     ns: &mut [f32],
     is: &mut [u32],
 ) -> StageTallies
-    requires { ⌜ Room before t 24 12 ⌝ }
+    requires { ⌜ Countable before t 24 12 ⌝ }
     ensures { λ r. ⌜ DrawsStages limit (boxStages origin turn length width height) before t r vs ns is ⌝ }
 {
     let b = Placed {

@@ -1,4 +1,4 @@
--- The parts of a cylinder: their points and triangles, the room that they leave, a side's points read from its rings, and the whole drawn part by part. Assumes nothing.
+-- The parts of a cylinder: their points and triangles, how many more can be counted behind them, a side's points read from its rings, and the whole drawn part by part. Assumes nothing.
 use mathlib.Core.Path.{_≡_, refl}
 use mathlib.Core.Bool.{true, false}
 use mathlib.Core.List.{List, [], _∷_}
@@ -18,12 +18,12 @@ use Rattle.angle_circle.specs.Circle.{sideAngle, sine, cosine}
 use Rattle.object.specs.declared.Orientation.{Orientation}
 use Rattle.object.specs.Object.{frame}
 use Rattle.face.specs.Faces.{fan, quad}
-use Rattle.face.specs.Drawing.{Drawing, Drew, Room}
+use Rattle.face.specs.Drawing.{Drawing, Drew, Countable}
 use Rattle.face.specs.declared.Tally.{Tally}
 use Rattle.shape.specs.Shapes.{ringAt, cylinderSide, endFace}
 use Rattle.shape.specs.Stages.{PartRun, cylinderStages, DrewStages}
 use Rattle.shape.proofs.Stages.{stages-none, stages-first, stages-empty}
-use Rattle.shape.proofs.Rooms.{Sized, sized-list, room-left}
+use Rattle.shape.proofs.Sized.{Sized, sized-list, countable-left}
 
 pub sides-sized : (t : Orientation) (bottom top : List Point) (n : ℕ) → Sized (list (cylinderSide t bottom top) n 0) (4 * n) (2 * n)
 unfolding cylinderSide quad fan list
@@ -42,14 +42,14 @@ unfolding cylinderSide
 side-drew limit t bottom top k p out h b a e q =
     rw (← getD-any bottom k p origin (omega arith), ← getD-any bottom (next 16 k) p origin (omega arith), ← getD-any top (next 16 k) p origin (omega arith), ← getD-any top k p origin (omega arith), ← e) q
 
--- the room that the sides leave, and then the top
-module _ (limit : Float) (t : Orientation) (bottom top : List Point) {before : ℕ} {d d₁ : Drawing} (room : Room before (d .tally) 96 60)
+-- how many more can be counted behind the sides, and then the top
+module _ (limit : Float) (t : Orientation) (bottom top : List Point) {before : ℕ} {d d₁ : Drawing} (countable : Countable before (d .tally) 96 60)
     (sides : Drew limit (list (cylinderSide t bottom top) 16 0) before d d₁) where
-  pub top-room : Room before (d₁ .tally) 32 28
-  top-room = room-left limit room sides (sides-sized t bottom top 16) (lit≤ tt) (lit≤ tt)
+  pub top-countable : Countable before (d₁ .tally) 32 28
+  top-countable = countable-left limit countable sides (sides-sized t bottom top 16) (lit≤ tt) (lit≤ tt)
 
-  pub floor-room : (ring : List Point) (out : Vector) (part : ℕ) {d₂ : Drawing} → length ring ≡ 16 → Drew limit (endFace ring out part ∷ []) before d₁ d₂ → Room before (d₂ .tally) 16 14
-  floor-room ring out part h q = room-left limit top-room q (end-sized ring out part h) (lit≤ tt) (lit≤ tt)
+  pub floor-countable : (ring : List Point) (out : Vector) (part : ℕ) {d₂ : Drawing} → length ring ≡ 16 → Drew limit (endFace ring out part ∷ []) before d₁ d₂ → Countable before (d₂ .tally) 16 14
+  floor-countable ring out part h q = countable-left limit top-countable q (end-sized ring out part h) (lit≤ tt) (lit≤ tt)
 
 -- a cylinder drawn part by part: the sides, the top, and the floor of one that has a height
 module _ (o : Point) (t : Orientation) (r h : Float) {limit : Float} {before : ℕ} {rings : List (List Point)} {up : Vector} {d d₁ d₂ : Drawing}

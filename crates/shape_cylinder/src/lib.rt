@@ -7,7 +7,7 @@ ghost use Rattle.lists.specs.Loops.{list};
 ghost use Rattle.float.specs.Number.{zerof};
 ghost use Rattle.angle_circle.specs.Circle.{sideAngle, sine, cosine};
 ghost use Rattle.object.specs.Object.{frame};
-ghost use Rattle.face.specs.Drawing.{Room, Draws};
+ghost use Rattle.face.specs.Drawing.{Countable, Draws};
 ghost use Rattle.shape.specs.Shapes.{ringPoint, ringAt, cylinderSide};
 ghost use Rattle.shape.specs.Stages.{cylinderStages, DrawsStages};
 use coords::Point;
@@ -61,7 +61,7 @@ fn cylinder_sides(
     ns: &mut [f32],
     is: &mut [u32],
 ) -> Tally
-    requires { ⌜ (length (getD rings 0 []) ≡ 16) × (length (getD rings 1 []) ≡ 16) × Room before t 64 32 ⌝ }
+    requires { ⌜ (length (getD rings 0 []) ≡ 16) × (length (getD rings 1 []) ≡ 16) × Countable before t 64 32 ⌝ }
     ensures { λ r. ⌜ Draws limit (list (cylinderSide turn (getD rings 0 []) (getD rings 1 [])) 16 0) before t r vs ns is ⌝ }
 {
     let mut u = t;
@@ -101,7 +101,7 @@ pub fn cylinder(
     ns: &mut [f32],
     is: &mut [u32],
 ) -> StageTallies
-    requires { ⌜ Room before t 96 60 ⌝ }
+    requires { ⌜ Countable before t 96 60 ⌝ }
     ensures { λ r. ⌜ DrawsStages limit (cylinderStages turn (ringAt origin turn radius zerof) (ringAt origin turn radius height) height) before t r vs ns is ⌝ }
 {
     let rings = rings_of(origin, turn, radius, height);

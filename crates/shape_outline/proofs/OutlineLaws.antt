@@ -17,9 +17,9 @@ use Rattle.scene.specs.Headers.{cornerCount}
 use Rattle.scene.proofs.Parts.{corners-length, holes-size, corners-count}
 use Rattle.face.specs.declared.Tally.{Tally}
 use Rattle.face.specs.Faces.{Face}
-use Rattle.face.specs.Drawing.{Drawing, tally, drawing, Drew, Room}
+use Rattle.face.specs.Drawing.{Drawing, tally, drawing, Drew, Countable}
 use Rattle.face.proofs.Counts.{count}
-use Rattle.face.proofs.Draws.{drew-room}
+use Rattle.face.proofs.Draws.{drew-countable}
 use Rattle.lid_plane.specs.Plane.{lidNormal, about}
 use Rattle.lid.specs.Lid.{lidPrice}
 use Rattle.lid.specs.Log.{logNumbers}
@@ -78,15 +78,15 @@ module _ (s : List ℕ) (i outer holes : ℕ) where
   corners-all : cornerCount s i outer holes ≡ length outerCorners + sumOf length holesOf
   corners-all = omega (arith, corners-length s outer (cornersOf i holes), sum-lengths holesOf, ap total (holes-size s (countsAt s holes (i + 4)) (cornersOf i holes + 24 * outer)))
 
-  -- walls leave room for the lid and the floor
-  lid-room : {limit : Float} {before : ℕ} {vs ns : List Float} {is : List ℕ} {d : Drawing} (closed : Bool) (lid : Vector) {n : ℕ} → 3 * before < 2 ^ 32 → Placed s i outer holes n
-      → Drew limit (wallsOf closed lid) before (drawing (tally 0 0 0) vs ns is) d → Room before (d .tally) 1024 1224
-  lid-room {limit} {before} closed lid h placed p =
-      let start : Room before (tally 0 0 0) 3072 2248 = record { vertices = omega arith; kept = omega arith; thin = omega arith } in
+  -- the lid and the floor can be counted behind the walls
+  lid-countable : {limit : Float} {before : ℕ} {vs ns : List Float} {is : List ℕ} {d : Drawing} (closed : Bool) (lid : Vector) {n : ℕ} → 3 * before < 2 ^ 32 → Placed s i outer holes n
+      → Drew limit (wallsOf closed lid) before (drawing (tally 0 0 0) vs ns is) d → Countable before (d .tally) 1024 1224
+  lid-countable {limit} {before} closed lid h placed p =
+      let start : Countable before (tally 0 0 0) 3072 2248 = record { vertices = omega arith; kept = omega arith; thin = omega arith } in
       let walls = outerWalls closed outerCorners lid in
       let inner = join (holeWalls lid) holesOf in
       let e = corners-count s outer (cornersOf i holes) (countsAt s holes (i + 4)) (cornersOf i holes + 24 * outer) in
-      drew-room limit start p
+      drew-countable limit start p
       (omega (arith, sum-append (λ f. length (f .points)) walls inner, outer-points closed outerCorners lid, holes-points lid holesOf, e, placed .counted .total, placed .counted .most))
       (omega (arith, sum-append count walls inner, outer-count closed outerCorners lid, holes-count lid holesOf, sum-lengths holesOf, e, placed .counted .total, placed .counted .most))
 
@@ -162,10 +162,10 @@ module _ (s : List ℕ) (i : ℕ) (closed : Bool) (outer holes n : ℕ) {o : Out
       subst (λ (o : OutlineAt). o .high ≡ hasHeight (cornersAt s (o .n) (o .at))) (sym e)
       (ap (λ (b : Bool). cond b (hasHeight (cornersAt s n (cornersOf i holes))) false) c)
 
-  pub room-in : {limit : Float} {before : ℕ} {vs ns : List Float} {is : List ℕ} {d : Drawing} → 3 * before < 2 ^ 32
-      → Drew limit (wallsIn s closed o) before (drawing (tally 0 0 0) vs ns is) d → Room before (d .tally) 1024 1224
-  room-in {limit} {before} {vs} {ns} {is} {d} h p =
-      lid-room s i outer holes closed _ h placed (subst (λ (o : OutlineAt). Drew limit (wallsIn s closed o) before (drawing (tally 0 0 0) vs ns is) d) e p)
+  pub countable-in : {limit : Float} {before : ℕ} {vs ns : List Float} {is : List ℕ} {d : Drawing} → 3 * before < 2 ^ 32
+      → Drew limit (wallsIn s closed o) before (drawing (tally 0 0 0) vs ns is) d → Countable before (d .tally) 1024 1224
+  countable-in {limit} {before} {vs} {ns} {is} {d} h p =
+      lid-countable s i outer holes closed _ h placed (subst (λ (o : OutlineAt). Drew limit (wallsIn s closed o) before (drawing (tally 0 0 0) vs ns is) d) e p)
 
   module _ {limit : Float} {before : ℕ} {vs ns : List Float} {is : List ℕ} where
     pub open-in : {ls : List ℕ} {t : Tally} {price : ℕ} {vs′ ns′ : List Float} {is′ : List ℕ} → closed ≡ false

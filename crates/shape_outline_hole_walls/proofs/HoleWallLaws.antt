@@ -15,10 +15,10 @@ use Rattle.coords_vector.specs.Vectors.{negate}
 use Rattle.scene_field.specs.Fields.{cornersAt, holesAt}
 use Rattle.scene.proofs.Parts.{corners-length}
 use Rattle.face.specs.Faces.{Face}
-use Rattle.face.specs.Drawing.{Drawing, drawn, Drew, Room}
+use Rattle.face.specs.Drawing.{Drawing, drawn, Drew, Countable}
 use Rattle.lid_plane.specs.Plane.{about}
 use Rattle.shape.specs.Shapes.{walls, holeWalls}
-use Rattle.shape_outline_walls.proofs.WallLaws.{walls-room}
+use Rattle.shape_outline_walls.proofs.WallLaws.{walls-countable}
 use Rattle.shape_outline_walls.proofs.Drawings.{left-to-draw, none-to-draw}
 
 -- the walls of a hole, all round and facing into it
@@ -29,11 +29,11 @@ hole-drew {limit} {before} {round} {inward} {d} {d′} s n at lid r i =
     subst (λ (fs : List Face). Drew limit fs before d d′)
     (ap₂ (walls (cornersAt s n at)) (i ∙ ap negate r) (sym (corners-length s n at)))
 
--- they leave room for those of r corners more
-pub hole-room : {limit : Float} {before : ℕ} {d d′ : Drawing} (s : List ℕ) (n at : ℕ) (lid : Vector) (m r : ℕ)
-    → Room before (d .tally) (4 * m) (2 * m) → Drew limit (holeWalls lid (cornersAt s n at)) before d d′ → n + r ≤ m → Room before (d′ .tally) (4 * r) (2 * r)
+-- those of r corners more can be counted behind them
+pub hole-countable : {limit : Float} {before : ℕ} {d d′ : Drawing} (s : List ℕ) (n at : ℕ) (lid : Vector) (m r : ℕ)
+    → Countable before (d .tally) (4 * m) (2 * m) → Drew limit (holeWalls lid (cornersAt s n at)) before d d′ → n + r ≤ m → Countable before (d′ .tally) (4 * r) (2 * r)
 unfolding holeWalls
-hole-room s n at lid m r room p h = let cs = cornersAt s n at in walls-room cs (negate (about cs lid)) (length cs) m r room p (omega (arith, corners-length s n at))
+hole-countable s n at lid m r countable p h = let cs = cornersAt s n at in walls-countable cs (negate (about cs lid)) (length cs) m r countable p (omega (arith, corners-length s n at))
 
 -- what is left of n counts from the k-th on
 module _ (f : ℕ → ℕ) (n : ℕ) where

@@ -2,7 +2,7 @@
 ghost use Prim.Native.Nat.{_+_, _*_, _≤_};
 ghost use Rattle.lists.specs.Loops.{join, sumOf};
 ghost use Rattle.scene_field.specs.Fields.{countsAt, holesAt};
-ghost use Rattle.face.specs.Drawing.{Draws, Room};
+ghost use Rattle.face.specs.Drawing.{Draws, Countable};
 ghost use Rattle.shape.specs.Shapes.{holeWalls};
 ghost use Rattle.shape_outline_corners.specs.Outlines.{CornersIn};
 use coords_vector::Vector;
@@ -26,7 +26,7 @@ pub fn hole_walls(
     is: &mut [u32],
 ) -> Tally
     requires { ⌜ (counts + 2 * holes ≤ at) × CornersIn (now s) at (sumOf (λ k. k) (countsAt (now s) holes counts)) ⌝ }
-    requires { ⌜ Room before t (4 * sumOf (λ k. k) (countsAt (now s) holes counts)) (2 * sumOf (λ k. k) (countsAt (now s) holes counts)) ⌝ }
+    requires { ⌜ Countable before t (4 * sumOf (λ k. k) (countsAt (now s) holes counts)) (2 * sumOf (λ k. k) (countsAt (now s) holes counts)) ⌝ }
     ensures { λ r. ⌜ Draws limit (join (holeWalls lid) (holesAt (now (s .entry)) (countsAt (now (s .entry)) holes counts) at)) before t r vs ns is ⌝ }
 {
     let mut t = t;

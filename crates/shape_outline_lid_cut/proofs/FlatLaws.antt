@@ -102,11 +102,11 @@ cut-lid s o fs counts m r e =
     ∙ ap (λ (at : ℕ). flatten (lidNormal (cornersAt s (o .outer) at)) (pointsAt s (cornerCount s (o .i) (o .outer) (o .holes)) (at + 12))) (m .place)) e
     ∙ lid-at s (o .i) (o .outer) (o .holes)
 
--- the lid is written where the cut of the corners laid flat is, in a room whose part from the second coordinates on is lent
-pub cut-written : {log log′ ts ts′ : List ℕ} {r : LidCounts} (s : List ℕ) (o : OutlineAt) (room : List Float) (w : ℕ) (counts : List ℕ) → OutlineHolds s o
-    → flats (take (o .n) room) (drop (o .n) room) ≡ flatten (o .lid) (pointsAt s (o .n) (o .at + 12)) → counts ≡ countsAt s (o .holes) (o .i + 4)
-    → WritesLid (lidOf (flats (take (o .n) room) (take w (drop (o .n) room))) (o .outer) counts .log) (lidOf (flats (take (o .n) room) (take w (drop (o .n) room))) (o .outer) counts .triangles) log log′ 0 ts ts′ r → w ≡ length room - o .n
+-- the lid is written where the cut of the corners laid flat is, in a scratch buffer that is lent from the second coordinates on
+pub cut-written : {log log′ ts ts′ : List ℕ} {r : LidCounts} (s : List ℕ) (o : OutlineAt) (scratch : List Float) (w : ℕ) (counts : List ℕ) → OutlineHolds s o
+    → flats (take (o .n) scratch) (drop (o .n) scratch) ≡ flatten (o .lid) (pointsAt s (o .n) (o .at + 12)) → counts ≡ countsAt s (o .holes) (o .i + 4)
+    → WritesLid (lidOf (flats (take (o .n) scratch) (take w (drop (o .n) scratch))) (o .outer) counts .log) (lidOf (flats (take (o .n) scratch) (take w (drop (o .n) scratch))) (o .outer) counts .triangles) log log′ 0 ts ts′ r → w ≡ length scratch - o .n
     → WritesLid (lidAt s (o .i) (o .outer) (o .holes) .log) (lidAt s (o .i) (o .outer) (o .holes) .triangles) log log′ 0 ts ts′ r
-cut-written {log} {log′} {ts} {ts′} {r} s o room w counts m flat e written h =
+cut-written {log} {log′} {ts} {ts′} {r} s o scratch w counts m flat e written h =
     subst (λ (l : Lid). WritesLid (l .log) (l .triangles) log log′ 0 ts ts′ r)
-    (cut-lid s o _ counts m (ap (flats (take (o .n) room)) (take-all w (drop (o .n) room) (simp length-drop (omega arith))) ∙ flat) e) written
+    (cut-lid s o _ counts m (ap (flats (take (o .n) scratch)) (take-all w (drop (o .n) scratch) (simp length-drop (omega arith))) ∙ flat) e) written

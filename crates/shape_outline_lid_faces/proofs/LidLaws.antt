@@ -22,8 +22,8 @@ use Rattle.buffer_float.proofs.Vertices.{length-vertices}
 use Rattle.face.specs.declared.Tally.{Tally}
 use Rattle.face.specs.Faces.{Triangle, TriangleLow}
 use Rattle.face_triangle.specs.Triangles.{triangleAt, trianglesIn}
-use Rattle.face.specs.Drawing.{Drawing, Drew, Room}
-use Rattle.face.proofs.Draws.{drew-room, room-less}
+use Rattle.face.specs.Drawing.{Drawing, Drew, Countable}
+use Rattle.face.proofs.Draws.{drew-countable, countable-less}
 use Rattle.face_draw.proofs.OneFace.{length-triangles}
 use Rattle.lid.specs.Lid.{lidPrice}
 use Rattle.lid.specs.Written.{triangleRecord, triangleNumbers}
@@ -75,19 +75,19 @@ pub points-drawn : (s : List ℕ) (n at : ℕ) (buffer buffer′ : List Float) �
     → verticesIn (take (3 * n) buffer′) ≡ pointsAt s n at
 points-drawn s n at buffer buffer′ e h = ap (λ (l : List Float). verticesIn (take (3 * n) l)) e ∙ points-front buffer (pointsAt s n at) n (points-length s n at) h
 
-pub face-asks : {before n k : ℕ} {t : Tally} (ts : List Triangle) (numbers : List Float) (ps : List Point) → verticesIn numbers ≡ ps → length ps ≡ n → Room before t n k → Each (TriangleLow n) ts
-    → Room before t (length numbers / 3) k × Each (TriangleLow (length (verticesIn numbers))) ts
-face-asks {before} {n} {k} {t} ts numbers ps e h room low =
+pub face-asks : {before n k : ℕ} {t : Tally} (ts : List Triangle) (numbers : List Float) (ps : List Point) → verticesIn numbers ≡ ps → length ps ≡ n → Countable before t n k → Each (TriangleLow n) ts
+    → Countable before t (length numbers / 3) k × Each (TriangleLow (length (verticesIn numbers))) ts
+face-asks {before} {n} {k} {t} ts numbers ps e h countable low =
     let size : length (verticesIn numbers) ≡ n = ap length e ∙ h in
-    (subst (λ (m : ℕ). Room before t m k) (sym size ∙ length-vertices numbers) room, subst (λ (m : ℕ). Each (TriangleLow m) ts) (sym size) low)
+    (subst (λ (m : ℕ). Countable before t m k) (sym size ∙ length-vertices numbers) countable, subst (λ (m : ℕ). Each (TriangleLow m) ts) (sym size) low)
 
--- ---- its room
+-- ---- what can be counted behind it
 
 -- one face drawn of two with n points and k triangles each
-pub face-room : {limit : Float} {before : ℕ} {d d′ : Drawing} {part : ℕ} {ps : List Point} {ts : List Triangle} {out : Vector} (n k : ℕ)
-    → Room before (d .tally) (2 * n) (2 * k) → Drew limit (faceAt part ps ts out ∷ []) before d d′ → length ps ≡ n → length ts ≡ k → Room before (d′ .tally) n k
+pub face-countable : {limit : Float} {before : ℕ} {d d′ : Drawing} {part : ℕ} {ps : List Point} {ts : List Triangle} {out : Vector} (n k : ℕ)
+    → Countable before (d .tally) (2 * n) (2 * k) → Drew limit (faceAt part ps ts out ∷ []) before d d′ → length ps ≡ n → length ts ≡ k → Countable before (d′ .tally) n k
 unfolding sumOf
-face-room {limit} n k room p h g = drew-room limit room p (omega (arith, h)) (omega (arith, g))
+face-countable {limit} n k countable p h g = drew-countable limit countable p (omega (arith, h)) (omega (arith, g))
 
 -- ---- its bounds
 
@@ -118,14 +118,14 @@ module _ (s : List ℕ) (i outer holes n : ℕ) (p : Placed s i outer holes n) w
       (unfold outlineLid in lid-corners (flatOf cs hs) (length cs) (map length hs))
 
 -- what `lid_faces` asks of the lid's triangles, where they are written at the start of a buffer with room for them
-pub lid-asks : {s : List ℕ} {o : OutlineAt} {before count : ℕ} {t : Tally} (buffer buffer′ : List ℕ) → OutlineHolds s o → Room before t 1024 1224
+pub lid-asks : {s : List ℕ} {o : OutlineAt} {before count : ℕ} {t : Tally} (buffer buffer′ : List ℕ) → OutlineHolds s o → Countable before t 1024 1224
     → count ≡ length (lidAt s (o .i) (o .outer) (o .holes) .triangles) → buffer′ ≡ sets buffer 0 (triangleNumbers (lidAt s (o .i) (o .outer) (o .holes) .triangles))
     → 3 * length (lidAt s (o .i) (o .outer) (o .holes) .triangles) ≤ length buffer
-    → Room before t (2 * o .n) (2 * (length (take (3 * count) buffer′) / 3)) × Each (TriangleLow (o .n)) (trianglesIn (take (3 * count) buffer′))
-lid-asks {s} {o} {before} {count} {t} buffer buffer′ m room e w fits =
+    → Countable before t (2 * o .n) (2 * (length (take (3 * count) buffer′) / 3)) × Each (TriangleLow (o .n)) (trianglesIn (take (3 * count) buffer′))
+lid-asks {s} {o} {before} {count} {t} buffer buffer′ m countable e w fits =
     let p = m .placed in
     let ts = lidAt s (o .i) (o .outer) (o .holes) .triangles in
     let drawn = triangles-drawn buffer buffer′ ts count e w fits in
     let size = sym (length-triangles (take (3 * count) buffer′)) ∙ ap length drawn in
     let low = low-triangles s (o .i) (o .outer) (o .holes) (o .n) p in
-    (room-less room (omega (arith, p .counted .most)) (omega (arith, size, few-triangles s (o .i) (o .outer) (o .holes) (o .n) p)), subst (Each (TriangleLow (o .n))) (sym drawn) low)
+    (countable-less countable (omega (arith, p .counted .most)) (omega (arith, size, few-triangles s (o .i) (o .outer) (o .holes) (o .n) p)), subst (Each (TriangleLow (o .n))) (sym drawn) low)

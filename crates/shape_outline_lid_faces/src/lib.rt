@@ -10,7 +10,7 @@ ghost use Rattle.coords.specs.Buffers.{vertexNumbers};
 ghost use Rattle.scene_field.specs.Layout.{mostCorners};
 ghost use Rattle.face.specs.Faces.{TriangleLow};
 ghost use Rattle.face_triangle.specs.Triangles.{trianglesIn};
-ghost use Rattle.face.specs.Drawing.{Room};
+ghost use Rattle.face.specs.Drawing.{Countable};
 ghost use Rattle.shape.specs.Shapes.{hasHeight};
 ghost use Rattle.shape.specs.Stages.{DrawsTwo};
 ghost use Rattle.shape_outline_corners.specs.Outlines.{pointsAt, CornersIn, PointsIn, allIn, lidIn, OutlineHolds};
@@ -62,7 +62,7 @@ fn lid_faces(
     is: &mut [u32],
 ) -> Lids
     requires { ⌜ CornersIn (now s) (o .at) (o .n) × (3 * o .n ≤ length (now points)) × (o .high ≡ hasHeight (allIn (now s) o)) ⌝ }
-    requires { ⌜ Room before t (2 * o .n) (2 * (length (now triangles) / 3)) × Each (TriangleLow (o .n)) (trianglesIn (now triangles)) ⌝ }
+    requires { ⌜ Countable before t (2 * o .n) (2 * (length (now triangles) / 3)) × Each (TriangleLow (o .n)) (trianglesIn (now triangles)) ⌝ }
     ensures { λ r. ⌜ DrawsTwo limit (capStages (now (s .entry)) o (trianglesIn (now (triangles .entry)))) before t (r .lid) (r .floor) vs ns is ⌝ }
 {
     let m = 3 * (o.n as usize);
@@ -98,7 +98,7 @@ fn closed_price(n: u32, high: bool, triangles: u32) -> u32
     2 * n + triangles
 }
 
-// The lid and the floor of an outline, with its log: `room` has the corners laid flat and then the
+// The lid and the floor of an outline, with its log: `scratch` has the corners laid flat and then the
 // points of a face, `ts` the lid's triangles.
 fn cap_in(
     s: &[u8],
@@ -106,20 +106,20 @@ fn cap_in(
     limit: f32,
     before: u32,
     t: Tally,
-    room: &mut [f32],
+    scratch: &mut [f32],
     ts: &mut [u32],
     vs: &mut [f32],
     ns: &mut [f32],
     is: &mut [u32],
     log: &mut [u32],
 ) -> Capped
-    requires { ⌜ OutlineHolds (now s) o × (o .high ≡ hasHeight (allIn (now s) o)) × Room before t 1024 1224 ⌝ }
-    requires { ⌜ (3 * o .n ≤ length (now room)) × (3 * length (lidIn (now s) o .triangles) ≤ length (now ts)) ⌝ }
+    requires { ⌜ OutlineHolds (now s) o × (o .high ≡ hasHeight (allIn (now s) o)) × Countable before t 1024 1224 ⌝ }
+    requires { ⌜ (3 * o .n ≤ length (now scratch)) × (3 * length (lidIn (now s) o .triangles) ≤ length (now ts)) ⌝ }
     ensures { λ r. ⌜ Caps limit (now (s .entry)) o before t r vs ns is log ⌝ }
 {
-    let d = cut(s, o, room, log, ts);
+    let d = cut(s, o, scratch, log, ts);
     let c = 3 * (d.triangles as usize);
-    let l = lid_faces(s, o, &ts[..c], room, limit, before, t, vs, ns, is);
+    let l = lid_faces(s, o, &ts[..c], scratch, limit, before, t, vs, ns, is);
     let lid = l.lid;
     let floor = l.floor;
     Capped {
@@ -131,7 +131,7 @@ fn cap_in(
 }
 
 // The lid and the floor of an outline, with its log. Most outlines have few corners, and need not wait
-// until much room is cleared.
+// until a long scratch buffer is cleared.
 pub fn cap(
     s: &[u8],
     o: OutlineAt,
@@ -143,15 +143,15 @@ pub fn cap(
     is: &mut [u32],
     log: &mut [u32],
 ) -> Capped
-    requires { ⌜ OutlineHolds (now s) o × (o .high ≡ hasHeight (allIn (now s) o)) × Room before t 1024 1224 ⌝ }
+    requires { ⌜ OutlineHolds (now s) o × (o .high ≡ hasHeight (allIn (now s) o)) × Countable before t 1024 1224 ⌝ }
     ensures { λ r. ⌜ Caps limit (now (s .entry)) o before t r vs ns is log ⌝ }
 {
     if (o.n as usize) + 3 * o.holes <= 32 {
-        let mut room = [0.0; 96];
+        let mut scratch = [0.0; 96];
         let mut ts = [0; 102];
-        return cap_in(s, o, limit, before, t, &mut room, &mut ts, vs, ns, is, log);
+        return cap_in(s, o, limit, before, t, &mut scratch, &mut ts, vs, ns, is, log);
     }
-    let mut room = [0.0; 1536];
+    let mut scratch = [0.0; 1536];
     let mut ts = [0; 1836];
-    cap_in(s, o, limit, before, t, &mut room, &mut ts, vs, ns, is, log)
+    cap_in(s, o, limit, before, t, &mut scratch, &mut ts, vs, ns, is, log)
 }

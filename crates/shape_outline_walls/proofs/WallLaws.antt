@@ -15,8 +15,8 @@ use Rattle.object.specs.declared.Corner.{Corner}
 use Rattle.scene_field.specs.Fields.{cornerAt, cornersAt}
 use Rattle.scene.proofs.Parts.{corners-get, corners-length}
 use Rattle.face.specs.Faces.{Face, quad, fan}
-use Rattle.face.specs.Drawing.{Drawing, tally, Drew, Room}
-use Rattle.face.proofs.Draws.{drew-room}
+use Rattle.face.specs.Drawing.{Drawing, tally, Drew, Countable}
+use Rattle.face.proofs.Draws.{drew-countable}
 use Rattle.lid_plane.specs.Plane.{about}
 use Rattle.shape.specs.Shapes.{corner0, wall, walls, outerWalls}
 use Rattle.shape.proofs.Sizes.{walls-points}
@@ -39,22 +39,22 @@ module _ (s : List ℕ) (n at : ℕ) (normal : Vector) (k : ℕ) (h : k < n) whe
       subst (λ (f : Face). Drew limit (f ∷ []) before d d′)
       (ap (quad 1 (a .base) (b .base) (b .top) (a .top)) (o ∙ ap (λ (v : Vector). cross v normal) e) ∙ ap₂ (λ (a b : Corner). wallBetween a b normal) p q ∙ wall-at)
 
--- the room that walls leave
+-- how many more can be counted behind walls
 module _ {limit : Float} {before : ℕ} {d d′ : Drawing} (cs : List Corner) (normal : Vector) where
-  pub walls-room : (m n r : ℕ) → Room before (d .tally) (4 * n) (2 * n) → Drew limit (walls cs normal m) before d d′ → m + r ≤ n → Room before (d′ .tally) (4 * r) (2 * r)
-  walls-room m n r room p h = drew-room limit room p (omega (arith, walls-points cs normal m)) (omega (arith, walls-count cs normal m))
+  pub walls-countable : (m n r : ℕ) → Countable before (d .tally) (4 * n) (2 * n) → Drew limit (walls cs normal m) before d d′ → m + r ≤ n → Countable before (d′ .tally) (4 * r) (2 * r)
+  walls-countable m n r countable p h = drew-countable limit countable p (omega (arith, walls-points cs normal m)) (omega (arith, walls-count cs normal m))
 
-  pub wall-room : (k n r : ℕ) → Room before (d .tally) (4 * n) (2 * n) → Drew limit (wall cs normal k ∷ []) before d d′ → suc r ≤ n → Room before (d′ .tally) (4 * r) (2 * r)
+  pub wall-countable : (k n r : ℕ) → Countable before (d .tally) (4 * n) (2 * n) → Drew limit (wall cs normal k ∷ []) before d d′ → suc r ≤ n → Countable before (d′ .tally) (4 * r) (2 * r)
   unfolding wall quad fan sumOf list
-  wall-room k n r room p h = drew-room limit room p (omega arith) (omega arith)
+  wall-countable k n r countable p h = drew-countable limit countable p (omega arith) (omega arith)
 
--- the outer walls of n corners leave room for those of r more
-pub outer-room : {limit : Float} {before : ℕ} {d d′ : Drawing} (s : List ℕ) (n at : ℕ) (closed : Bool) (lid : Vector) (m r : ℕ)
-    → Room before (d .tally) (4 * m) (2 * m) → Drew limit (outerWalls closed (cornersAt s n at) lid) before d d′ → n + r ≤ m → Room before (d′ .tally) (4 * r) (2 * r)
+-- the walls of r corners more can be counted behind the outer ones of n
+pub outer-countable : {limit : Float} {before : ℕ} {d d′ : Drawing} (s : List ℕ) (n at : ℕ) (closed : Bool) (lid : Vector) (m r : ℕ)
+    → Countable before (d .tally) (4 * m) (2 * m) → Drew limit (outerWalls closed (cornersAt s n at) lid) before d d′ → n + r ≤ m → Countable before (d′ .tally) (4 * r) (2 * r)
 unfolding outerWalls
-outer-room s n at true lid m r room p h = let cs = cornersAt s n at in walls-room cs (about cs lid) (length cs) m r room p (omega (arith, corners-length s n at))
-outer-room s n at false lid m r room p h = let cs = cornersAt s n at in walls-room cs zeroV (length cs - 1) m r room p (omega (arith, corners-length s n at))
+outer-countable s n at true lid m r countable p h = let cs = cornersAt s n at in walls-countable cs (about cs lid) (length cs) m r countable p (omega (arith, corners-length s n at))
+outer-countable s n at false lid m r countable p h = let cs = cornersAt s n at in walls-countable cs zeroV (length cs - 1) m r countable p (omega (arith, corners-length s n at))
 
--- with nothing drawn there is room for m corners
-pub start-room : (before m : ℕ) → 3 * before < 2 ^ 32 → m ≤ 512 → Room before (tally 0 0 0) (4 * m) (2 * m)
-start-room before m h g = record { vertices = omega arith; kept = omega arith; thin = omega arith }
+-- with nothing drawn the walls of m corners can be counted
+pub start-countable : (before m : ℕ) → 3 * before < 2 ^ 32 → m ≤ 512 → Countable before (tally 0 0 0) (4 * m) (2 * m)
+start-countable before m h g = record { vertices = omega arith; kept = omega arith; thin = omega arith }

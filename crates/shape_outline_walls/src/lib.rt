@@ -1,7 +1,7 @@
 // The walls of a ring of an outline, `walls` of object_mesh.rs: one from each corner to the next.
 ghost use Prim.Native.Nat.{_*_, _≤_};
 ghost use Rattle.scene_field.specs.Fields.{cornersAt};
-ghost use Rattle.face.specs.Drawing.{Draws, Room};
+ghost use Rattle.face.specs.Drawing.{Draws, Countable};
 ghost use Rattle.shape.specs.Shapes.{walls};
 ghost use Rattle.shape_outline_corners.specs.Outlines.{CornersIn};
 use coords_vector::Vector;
@@ -23,7 +23,7 @@ pub fn walls(
     ns: &mut [f32],
     is: &mut [u32],
 ) -> Tally
-    requires { ⌜ CornersIn (now s) at n × (edges ≤ n) × Room before t (4 * edges) (2 * edges) ⌝ }
+    requires { ⌜ CornersIn (now s) at n × (edges ≤ n) × Countable before t (4 * edges) (2 * edges) ⌝ }
     ensures { λ r. ⌜ Draws limit (walls (cornersAt (now (s .entry)) n at) normal edges) before t r vs ns is ⌝ }
 {
     let mut t = t;

@@ -14,7 +14,7 @@ use Rattle.coords.proofs.Buffers.{vertices-size, vertices-back}
 use Rattle.face.specs.declared.Tally.{Tally}
 use Rattle.face.specs.Faces.{TriangleLow, fan}
 use Rattle.face_triangle.specs.Triangles.{trianglesIn}
-use Rattle.face.specs.Drawing.{Drawing, Drew, Room, faceIn}
+use Rattle.face.specs.Drawing.{Drawing, Drew, Countable, faceIn}
 use Rattle.face.proofs.Corners.{fan-low}
 use Rattle.shape.specs.Shapes.{endFace}
 
@@ -27,8 +27,8 @@ unfolding trianglesIn fan list
 fan-numbers = refl
 
 module _ (ring : List Point) (ns : List Float) (e : ns ≡ vertexNumbers ring) where
-  pub end-room : {before : ℕ} {t : Tally} → length ring ≡ 16 → Room before t 16 14 → Room before t (length ns / 3) 14
-  end-room {before} {t} h r =
+  pub end-countable : {before : ℕ} {t : Tally} → length ring ≡ 16 → Countable before t 16 14 → Countable before t (length ns / 3) 14
+  end-countable {before} {t} h r =
       let n : length ns / 3 ≡ 16 = rw e (omega (arith, vertices-size ring)) in
       rw n r
 

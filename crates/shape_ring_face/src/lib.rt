@@ -1,7 +1,7 @@
 // An end of a prism: a ring of sixteen points as one face.
 ghost use mathlib.Core.Path.{_≡_};
 ghost use Rattle.coords.specs.Buffers.{vertexNumbers};
-ghost use Rattle.face.specs.Drawing.{Room, DrawsFace};
+ghost use Rattle.face.specs.Drawing.{Countable, DrawsFace};
 ghost use Rattle.shape.specs.Shapes.{endFace};
 use coords::Point;
 use coords_vector::Vector;
@@ -82,7 +82,7 @@ pub fn end(
     ns: &mut [f32],
     is: &mut [u32],
 ) -> Tally
-    requires { ⌜ Room before t 16 14 ⌝ }
+    requires { ⌜ Countable before t 16 14 ⌝ }
     ensures { λ r. ⌜ DrawsFace limit (endFace ring out) before t r vs ns is ⌝ }
 {
     let numbers = numbers_of(ring);

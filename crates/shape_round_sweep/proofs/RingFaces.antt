@@ -21,9 +21,9 @@ use Rattle.coords.specs.Buffers.{vertexRecord, vertexNumbers, verticesIn}
 use Rattle.coords.proofs.Buffers.{vertices-size, vertices-back}
 use Rattle.object.specs.declared.Section.{Section}
 use Rattle.face.specs.Faces.{Triangle, Face, fan, quad}
-use Rattle.face.specs.Drawing.{Drawing, Drew, Room}
+use Rattle.face.specs.Drawing.{Drawing, Drew, Countable}
 use Rattle.face.proofs.Counts.{count}
-use Rattle.face.proofs.Draws.{then, drew-room}
+use Rattle.face.proofs.Draws.{then, drew-countable}
 use Rattle.scene_field.specs.Fields.{sectionAt, sectionsAt}
 use Rattle.shape.specs.Shapes.{Ellipse, ellipse, ellipse0, startOut, endOut, endFace, tubeSide, tubeFaces, tubeCaps, pairs}
 use Rattle.shape.specs.Stages.{fourStages, roundStages, DrewStages}
@@ -46,19 +46,19 @@ pub ring-size : (x : Section) → length (ellipse x .ring) ≡ 16
 unfolding ellipse
 ring-size x = length-list _ 16 0
 
--- side k drawn behind those before it, whatever stands for a point past a ring's end, and the room that it leaves
+-- side k drawn behind those before it, whatever stands for a point past a ring's end, and how many more can be counted behind it
 pub side-drawn : (ca : Point) (a : List Point) (cb : Point) (b : List Point) (k : ℕ) (p q r s : Point) {limit : Float} {before : ℕ} {out : Vector} {d d′ d″ : Drawing} → length a ≡ 16 → length b ≡ 16 → k < 16
-    → Drew limit (list (tubeSide (ringAbout ca a) (ringAbout cb b)) k 0) before d d′ → Room before (d′ .tally) (4 * (16 - k)) (2 * (16 - k))
+    → Drew limit (list (tubeSide (ringAbout ca a) (ringAbout cb b)) k 0) before d d′ → Countable before (d′ .tally) (4 * (16 - k)) (2 * (16 - k))
     → out ≡ plus (plus (plus (diff (getD a k p) ca) (diff (getD a (next 16 k) q) ca)) (diff (getD b k s) cb)) (diff (getD b (next 16 k) r) cb)
     → Drew limit (quad 1 (getD a k p) (getD a (next 16 k) q) (getD b (next 16 k) r) (getD b k s) out ∷ []) before d′ d″
-    → (k + 1 ≤ 16) × Drew limit (list (tubeSide (ringAbout ca a) (ringAbout cb b)) (k + 1) 0) before d d″ × Room before (d″ .tally) (4 * (16 - (k + 1))) (2 * (16 - (k + 1)))
+    → (k + 1 ≤ 16) × Drew limit (list (tubeSide (ringAbout ca a) (ringAbout cb b)) (k + 1) 0) before d d″ × Countable before (d″ .tally) (4 * (16 - (k + 1))) (2 * (16 - (k + 1)))
 unfolding tubeSide quad fan list sumOf
-side-drawn ca a cb b k p q r s {limit} x y h g room e f =
+side-drawn ca a cb b k p q r s {limit} x y h g countable e f =
     let n = next-in 16 k (lit< tt) in (
       omega arith,
       drew-next _ (tubeSide (ringAbout ca a) (ringAbout cb b)) k g
           (rw (getD-any a k origin p (omega arith), getD-any a (next 16 k) origin q (omega arith), getD-any b (next 16 k) origin r (omega arith), getD-any b k origin s (omega arith)) (rw e at f)),
-      drew-room limit room f (omega arith) (omega arith),
+      drew-countable limit countable f (omega arith) (omega arith),
     )
 
 pub tube-points : (a b : Ellipse) → sumOf (λ (f : Face). length (f .points)) (tubeFaces a b) ≡ 64

@@ -4,7 +4,7 @@ ghost use Prim.Native.Nat.{_<_};
 ghost use Rattle.lists.specs.Loops.{list};
 ghost use Rattle.coords_vector.specs.Vectors.{plus};
 ghost use Rattle.coords.specs.Coords.{diff};
-ghost use Rattle.face.specs.Drawing.{Room, Draws};
+ghost use Rattle.face.specs.Drawing.{Countable, Draws};
 ghost use Rattle.shape.specs.Shapes.{ellipsePoint, ellipse, tubeFaces};
 ghost use Rattle.shape_round_sweep.specs.Rings.{ringAbout};
 use coords::Point;
@@ -70,7 +70,7 @@ pub fn tube(
     ns: &mut [f32],
     is: &mut [u32],
 ) -> Tally
-    requires { ⌜ Room before t 64 32 ⌝ }
+    requires { ⌜ Countable before t 64 32 ⌝ }
     ensures { λ r. ⌜ Draws limit (tubeFaces (ringAbout ca a) (ringAbout cb b)) before t r vs ns is ⌝ }
 {
     let mut u = t;

@@ -6,7 +6,7 @@ mod ellipses;
 ghost use mathlib.Core.Path.{_≡_};
 ghost use Prim.Native.Nat.{_+_, _*_, _≤_};
 ghost use lib.ListN.{length};
-ghost use Rattle.face.specs.Drawing.{Room};
+ghost use Rattle.face.specs.Drawing.{Countable};
 ghost use Rattle.scene_field.specs.Fields.{sectionAt, sectionsAt};
 ghost use Rattle.shape.specs.Shapes.{ellipse};
 ghost use Rattle.shape.specs.Stages.{roundStages, DrawsStages};
@@ -39,7 +39,7 @@ pub fn round_sweep(
     ns: &mut [f32],
     is: &mut [u32],
 ) -> StageTallies
-    requires { ⌜ (at + 48 * n ≤ length (now s)) × Room before t (64 * n) (32 * n) ⌝ }
+    requires { ⌜ (at + 48 * n ≤ length (now s)) × Countable before t (64 * n) (32 * n) ⌝ }
     ensures { λ r. ⌜ DrawsStages limit (roundStages (sectionsAt (now (s .entry)) n at)) before t r vs ns is ⌝ }
 {
     if n == 0 {

@@ -2,7 +2,7 @@
 ghost use mathlib.Core.Path.{_≡_};
 ghost use Rattle.scene_field.specs.Fields.{pointAt};
 ghost use Rattle.scene.specs.Headers.{orientationOf, SolidIn};
-ghost use Rattle.face.specs.Drawing.{Room};
+ghost use Rattle.face.specs.Drawing.{Countable};
 ghost use Rattle.shape.specs.Stages.{solidStages, DrawsStages};
 use face::Tally;
 use object::Extent;
@@ -31,7 +31,7 @@ pub fn solid(
     ns: &mut [f32],
     is: &mut [u32],
 ) -> StageTallies
-    requires { ⌜ SolidIn (now s) p × Room before t 96 60 ⌝ }
+    requires { ⌜ SolidIn (now s) p × Countable before t 96 60 ⌝ }
     ensures { λ r. ⌜ DrawsStages limit (solidStages (pointAt (now (s .entry)) (p .position)) (orientationOf (now (s .entry)) p) (p .extent))
         before t r vs ns is ⌝ }
 {

@@ -7,7 +7,7 @@ ghost use lib.ListN.{length};
 ghost use Rattle.float.specs.Number.{zerof};
 ghost use Rattle.coords_vector.specs.Vectors.{vector};
 ghost use Rattle.coords.specs.Coords.{diff};
-ghost use Rattle.face.specs.Drawing.{Room, Draws};
+ghost use Rattle.face.specs.Drawing.{Countable, Draws};
 ghost use Rattle.scene_field.specs.Fields.{sectionsAt};
 ghost use Rattle.shape.specs.Shapes.{pairFaces};
 ghost use Rattle.shape.specs.Stages.{sweepStages, DrawsStages};
@@ -46,7 +46,7 @@ fn pair(
     ns: &mut [f32],
     is: &mut [u32],
 ) -> Tally
-    requires { ⌜ Room before t 16 8 ⌝ }
+    requires { ⌜ Countable before t 16 8 ⌝ }
     ensures { λ r. ⌜ Draws limit (pairFaces a b) before t r vs ns is ⌝ }
 {
     let left = side_direction(a.left.base, b.left.base);
@@ -123,7 +123,7 @@ pub fn sweep(
     ns: &mut [f32],
     is: &mut [u32],
 ) -> StageTallies
-    requires { ⌜ (at + 48 * n ≤ length (now s)) × Room before t (16 * n) (8 * n) ⌝ }
+    requires { ⌜ (at + 48 * n ≤ length (now s)) × Countable before t (16 * n) (8 * n) ⌝ }
     ensures { λ r. ⌜ DrawsStages limit (sweepStages (sectionsAt (now (s .entry)) n at)) before t r vs ns is ⌝ }
 {
     if n == 0 {

@@ -2,14 +2,14 @@
 use mathlib.Core.Path.{_∙_}
 use Prim.Native.Nat.{_+_}
 use lib.Dec.{lit≤}
-use Rattle.face.proofs.Draws.{room-less}
-use Rattle.shape.proofs.Rooms.{room-left}
+use Rattle.face.proofs.Draws.{countable-less}
+use Rattle.shape.proofs.Sized.{countable-left}
 use Rattle.shape_box.proofs.BoxLaws.{quad-sized, one-side, both-sides}
 use Rattle.shape_box.proofs.box_sides.Statement.{statement}
 use Rattle.shape_box.proofs.box_sides.Tie as tie
 
 quad-requires : tie.Need-quad-requires
-quad-requires c κs = room-less (c .before .before .before .before .before .before .before .before .pre) (lit≤ tt) (lit≤ tt)
+quad-requires c κs = countable-less (c .before .before .before .before .before .before .before .before .pre) (lit≤ tt) (lit≤ tt)
 
 returns : tie.Need-returns
 returns c = λ part.
@@ -18,7 +18,7 @@ returns c = λ part.
     (rw (c .before .before .before .before .before .before .before .before .before .before .before .box-face .ensures part) at (c .before .before .before .before .before .before .before .quad .ensures part)) (c .if1 .taken)
 
 quad-requires-2 : tie.Need-quad-requires-2
-quad-requires-2 c κs = room-left (c .before .before .before .before .before .before .before .before .before .before .before .before .before .before .before .before .before .before .before .before .before .args .limit) (c .before .before .before .before .before .before .before .before .before .before .before .before .before .before .before .before .before .before .before .before .before .pre) (c .before .before .before .before .before .before .before .before .before .before .before .before .quad .ensures 0) (quad-sized _ _ _ _ _ _) (lit≤ tt) (lit≤ tt)
+quad-requires-2 c κs = countable-left (c .before .before .before .before .before .before .before .before .before .before .before .before .before .before .before .before .before .before .before .before .before .args .limit) (c .before .before .before .before .before .before .before .before .before .before .before .before .before .before .before .before .before .before .before .before .before .pre) (c .before .before .before .before .before .before .before .before .before .before .before .before .quad .ensures 0) (quad-sized _ _ _ _ _ _) (lit≤ tt) (lit≤ tt)
 
 returns-2 : tie.Need-returns-2
 returns-2 c = λ part.

@@ -7,7 +7,7 @@ use borrow.Author.Needs.{needs}
 use Rattle.face.specs.Drawing.{drawing}
 use Rattle.face.proofs.Draws.{drew-vertices, drew-normals, drew-indices}
 use Rattle.shape_box.specs.Axes.{axisNo, depthNo, sidesNo}
-use Rattle.shape_box.proofs.BoxLaws.{Drawn, drawn-start, drawn-room, drawn-next, drawn-all}
+use Rattle.shape_box.proofs.BoxLaws.{Drawn, drawn-start, drawn-countable, drawn-next, drawn-all}
 use Rattle.shape_box.proofs.cuboid.Statement.{statement}
 use Rattle.shape_box.proofs.cuboid.Tie as tie
 
@@ -22,7 +22,7 @@ loop-holds : tie.Need-loop-holds Inv-loop μ-loop
 loop-holds c = (zero-le, drawn-start _ _ _ _ _ (c .before .before .before .pre))
 
 box-sides-requires : tie.Need-box-sides-requires Inv-loop μ-loop
-box-sides-requires c κs = drawn-room _ _ _ _ _ (c .before .before .before .before .before .before .loop .inv .1) (c .before .before .before .before .before .loop-test .taken)
+box-sides-requires c κs = drawn-countable _ _ _ _ _ (c .before .before .before .before .before .before .loop .inv .1) (c .before .before .before .before .before .loop-test .taken)
 
 loop-again : tie.Need-loop-again Inv-loop μ-loop
 unfolding sidesNo

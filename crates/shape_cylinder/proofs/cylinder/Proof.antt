@@ -2,9 +2,9 @@
 use mathlib.Core.Path.{_≡_, _∙_}
 use native.Mathlib.Omega.{arith}
 use lib.Dec.{lit≤}
-use Rattle.face.proofs.Draws.{room-less}
+use Rattle.face.proofs.Draws.{countable-less}
 use Rattle.lists.proofs.Lists.{length-list}
-use Rattle.shape_cylinder.proofs.CylinderLaws.{top-room, floor-room, flat-cylinder, whole-cylinder}
+use Rattle.shape_cylinder.proofs.CylinderLaws.{top-countable, floor-countable, flat-cylinder, whole-cylinder}
 use Rattle.shape.specs.Shapes.{ringAt}
 use Rattle.shape_cylinder.proofs.cylinder.Statement.{statement}
 use Rattle.shape_cylinder.proofs.cylinder.Tie as tie
@@ -13,16 +13,16 @@ cylinder-sides-requires : tie.Need-cylinder-sides-requires
 unfolding ringAt
 cylinder-sides-requires c κs =
     let e = c .before .before .before .before .rings-of .ensures in
-    (rw e (length-list _ 16 0), rw e (length-list _ 16 0), room-less (c .before .before .before .before .before .before .before .before .pre) (lit≤ tt) (lit≤ tt))
+    (rw e (length-list _ 16 0), rw e (length-list _ 16 0), countable-less (c .before .before .before .before .before .before .before .before .pre) (lit≤ tt) (lit≤ tt))
 
 end-requires : tie.Need-end-requires
-end-requires c κs = let s = c .before .before .before .before .before .before .before .before .before .before .before .before .before .before .before .before .before .before .before in room-less (top-room (s .args .limit) (s .args .turn) _ _ (s .pre) (c .before .before .before .before .before .before .before .before .before .before .cylinder-sides .ensures)) (lit≤ tt) (lit≤ tt)
+end-requires c κs = let s = c .before .before .before .before .before .before .before .before .before .before .before .before .before .before .before .before .before .before .before in countable-less (top-countable (s .args .limit) (s .args .turn) _ _ (s .pre) (c .before .before .before .before .before .before .before .before .before .before .cylinder-sides .ensures)) (lit≤ tt) (lit≤ tt)
 
 end-requires-2 : tie.Need-end-requires-2
 unfolding ringAt
 end-requires-2 c κs =
     let s = c .before .before .before .before .before .before .before .before .before .before .before .before .before .before .before .before .before .before .before .before .before .before .before .before .before .before .before .before .before .before .before .before in
-    floor-room (s .args .limit) (s .args .turn) _ _ (s .pre) (c .before .before .before .before .before .before .before .before .before .before .before .before .before .before .before .before .before .before .before .before .before .before .before .cylinder-sides .ensures) _ (c .before .before .before .before .before .before .before .before .before .before .before .before .before .before .before .before .before .before .before .before .before .before .before .before .before .before .before .frame .result) 2 (rw (c .before .before .before .before .before .before .before .before .before .before .before .before .before .before .before .before .before .before .before .before .before .before .before .before .before .before .before .before .rings-of .ensures) (length-list _ 16 0)) (c .before .before .before .before .before .before .before .before .before .before .before .before .end .ensures 2)
+    floor-countable (s .args .limit) (s .args .turn) _ _ (s .pre) (c .before .before .before .before .before .before .before .before .before .before .before .before .before .before .before .before .before .before .before .before .before .before .before .cylinder-sides .ensures) _ (c .before .before .before .before .before .before .before .before .before .before .before .before .before .before .before .before .before .before .before .before .before .before .before .before .before .before .before .frame .result) 2 (rw (c .before .before .before .before .before .before .before .before .before .before .before .before .before .before .before .before .before .before .before .before .before .before .before .before .before .before .before .before .rings-of .ensures) (length-list _ 16 0)) (c .before .before .before .before .before .before .before .before .before .before .before .before .end .ensures 2)
 
 returns : tie.Need-returns
 returns c =

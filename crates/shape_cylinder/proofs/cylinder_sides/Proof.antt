@@ -8,7 +8,7 @@ use Rattle.face.proofs.Draws.{drew-none, drew-vertices, drew-normals, drew-indi
 use Rattle.face.specs.Drawing.{drawing, Drew}
 use Rattle.lists.specs.Loops.{list}
 use Rattle.shape_ring_face.proofs.Rings.{drew-next}
-use Rattle.shape.proofs.Rooms.{room-left}
+use Rattle.shape.proofs.Sized.{countable-left}
 use Rattle.shape_cylinder.proofs.CylinderLaws.{side-drew, sides-sized}
 use Rattle.shape.specs.Shapes.{cylinderSide}
 use Rattle.shape_cylinder.proofs.cylinder_sides.Statement.{statement}
@@ -29,7 +29,7 @@ quad-requires c κs =
     let l = c .before .before .before .before .before .before .before .before .before in
     let s = l .before .before .before .before in
     let h = c .before .before .before .before .before .before .before .before .loop-test .taken in
-    room-left (s .args .limit) (s .pre .2) (l .loop .inv .1) (sides-sized _ _ _ (l .loop .k)) (omega (arith, h)) (omega (arith, h))
+    countable-left (s .args .limit) (s .pre .2) (l .loop .inv .1) (sides-sized _ _ _ (l .loop .k)) (omega (arith, h)) (omega (arith, h))
 
 loop-again : tie.Need-loop-again Inv-loop μ-loop
 loop-again c =

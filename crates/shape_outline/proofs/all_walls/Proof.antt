@@ -4,8 +4,8 @@ use Prim.Native.Nat.{_+_, _-_}
 use native.Mathlib.Omega.{arith}
 use Rattle.lists.specs.Loops.{sumOf}
 use Rattle.scene_field.specs.Fields.{countsAt}
-use Rattle.face.proofs.Draws.{then, room-less}
-use Rattle.shape_outline_walls.proofs.WallLaws.{start-room, outer-room}
+use Rattle.face.proofs.Draws.{then, countable-less}
+use Rattle.shape_outline_walls.proofs.WallLaws.{start-countable, outer-countable}
 use Rattle.shape_outline.proofs.OutlineLaws.{few-edges, outer-drew}
 use Rattle.shape_outline.proofs.all_walls.Statement.{statement}
 use Rattle.shape_outline.proofs.all_walls.Tie as tie
@@ -16,7 +16,7 @@ walls-requires c κs =
     let a = z .args in
     let m = z .pre .0 in
     let few = few-edges (a .closed) (a .o .outer) _ (c .before .before .before .before .edges .ensures) in
-    (omega (arith, m .place, m .placed .inside, m .placed .counted .total), few, room-less (start-room (a .before) (a .o .outer) (z .pre .1) (omega (arith, m .placed .counted .total, m .placed .counted .most))) (omega (arith, few)) (omega (arith, few)))
+    (omega (arith, m .place, m .placed .inside, m .placed .counted .total), few, countable-less (start-countable (a .before) (a .o .outer) (z .pre .1) (omega (arith, m .placed .counted .total, m .placed .counted .most))) (omega (arith, few)) (omega (arith, few)))
 
 hole-walls-requires : tie.Need-hole-walls-requires
 hole-walls-requires c κs =
@@ -28,7 +28,7 @@ hole-walls-requires c κs =
     let total = m .placed .counted .total in
     let inner = sumOf (λ k. k) (countsAt s (o .holes) (o .i + 4)) in
     let drew = outer-drew (a .closed) s (o .outer) (o .at) (o .lid) (c .before .before .before .before .before .before .before .before .before .before .before .before .before .before .before .before .square-to .ensures) (c .before .before .before .before .before .before .before .before .before .before .before .before .before .before .before .edges .ensures) (c .before .before .before .before .before .before .before .before .before .before .walls .ensures) in
-    ((omega (arith, m .place), omega (arith, m .place, m .placed .inside)), outer-room s (o .outer) (o .at) (a .closed) (o .lid) (o .n) inner (start-room (a .before) _ (z .pre .1) (m .placed .counted .most)) drew (omega arith))
+    ((omega (arith, m .place), omega (arith, m .place, m .placed .inside)), outer-countable s (o .outer) (o .at) (a .closed) (o .lid) (o .n) inner (start-countable (a .before) _ (z .pre .1) (m .placed .counted .most)) drew (omega arith))
 
 returns : tie.Need-returns
 returns c =

@@ -1,7 +1,7 @@
 -- `shape_outline::outline` meets its contract. Assumes nothing.
 use mathlib.Core.Path.{_∙_}
 use native.Mathlib.Omega.{arith}
-use Rattle.shape_outline.proofs.OutlineLaws.{outline-holds, high-in, room-in, open-in, closed-in}
+use Rattle.shape_outline.proofs.OutlineLaws.{outline-holds, high-in, countable-in, open-in, closed-in}
 use Rattle.shape_outline.proofs.outline.Statement.{statement}
 use Rattle.shape_outline.proofs.outline.Tie as tie
 
@@ -16,7 +16,7 @@ cap-requires c κs =
     let p = c .before .before .before .before .before .before .before .before .before .before .before .before .before .before .before .before .before .before .before .before .before .pre in
     let a = c .before .before .before .before .before .before .before .before .before .before .before .before .before .before .before .before .before .before .before .before .before .args in
     let e = c .before .before .before .before .before .before .before .before .before .before .before .before .before .before .before .outline-at .ensures in
-    (outline-holds (a .s .now) (a .i) (a .closed) (a .outer) (a .holes) (a .corners) e (p .0), high-in (a .s .now) (a .i) (a .closed) (a .outer) (a .holes) (a .corners) e (p .0) (c .before .before .before .before .if1 .taken), room-in (a .s .now) (a .i) (a .closed) (a .outer) (a .holes) (a .corners) e (p .0) (p .1) (c .before .before .before .before .before .before .before .before .before .before .before .all-walls .ensures))
+    (outline-holds (a .s .now) (a .i) (a .closed) (a .outer) (a .holes) (a .corners) e (p .0), high-in (a .s .now) (a .i) (a .closed) (a .outer) (a .holes) (a .corners) e (p .0) (c .before .before .before .before .if1 .taken), countable-in (a .s .now) (a .i) (a .closed) (a .outer) (a .holes) (a .corners) e (p .0) (p .1) (c .before .before .before .before .before .before .before .before .before .before .before .all-walls .ensures))
 
 returns : tie.Need-returns
 returns c =

@@ -5,17 +5,17 @@ use native.Mathlib.Omega.{arith}
 use native.Mathlib.Nat.{le-refl}
 use lib.ListN.{length}
 use borrow.Author.Needs.{needs}
-use Rattle.face.specs.Drawing.{drawing, drawn, Room}
+use Rattle.face.specs.Drawing.{drawing, drawn, Countable}
 use Rattle.lists.specs.Loops.{join}
 use Rattle.scene_field.specs.Fields.{u16At, countsAt, holesAt}
-use Rattle.face.proofs.Draws.{room-less}
-use Rattle.shape_outline_hole_walls.proofs.HoleWallLaws.{hole-drew, hole-room, countsLeft, counts-start, counts-next, holesLeft, holes-start, holes-next, holes-end}
+use Rattle.face.proofs.Draws.{countable-less}
+use Rattle.shape_outline_hole_walls.proofs.HoleWallLaws.{hole-drew, hole-countable, countsLeft, counts-start, counts-next, holesLeft, holes-start, holes-next, holes-end}
 use Rattle.shape.specs.Shapes.{holeWalls}
 use Rattle.shape_outline_hole_walls.proofs.hole_walls.Statement.{statement}
 use Rattle.shape_outline_hole_walls.proofs.hole_walls.Tie as tie
 
 abbrev Inv-loop : tie.InvT-loop
-Inv-loop s counts holes at lid limit before vs₀ ns₀ is₀ t₀ place₀ k₀ vs ns is t place k = (k ≤ holes) × (length vs ≡ length vs₀) × (length ns ≡ length ns₀) × (length is ≡ length is₀) × (place + 24 * countsLeft (λ j. u16At s (counts + 2 * j)) holes k ≤ length s) × Room before t (4 * countsLeft (λ j. u16At s (counts + 2 * j)) holes k) (2 * countsLeft (λ j. u16At s (counts + 2 * j)) holes k) × (drawn limit (holesLeft limit before s lid (λ j. u16At s (counts + 2 * j)) holes k place) before (drawing t vs ns is) ≡ drawn limit (join (holeWalls lid) (holesAt s (countsAt s holes counts) at)) before (drawing t₀ vs₀ ns₀ is₀))
+Inv-loop s counts holes at lid limit before vs₀ ns₀ is₀ t₀ place₀ k₀ vs ns is t place k = (k ≤ holes) × (length vs ≡ length vs₀) × (length ns ≡ length ns₀) × (length is ≡ length is₀) × (place + 24 * countsLeft (λ j. u16At s (counts + 2 * j)) holes k ≤ length s) × Countable before t (4 * countsLeft (λ j. u16At s (counts + 2 * j)) holes k) (2 * countsLeft (λ j. u16At s (counts + 2 * j)) holes k) × (drawn limit (holesLeft limit before s lid (λ j. u16At s (counts + 2 * j)) holes k place) before (drawing t vs ns is) ≡ drawn limit (join (holeWalls lid) (holesAt s (countsAt s holes counts) at)) before (drawing t₀ vs₀ ns₀ is₀))
 
 abbrev μ-loop : tie.MeasureT-loop
 μ-loop s counts holes at lid limit before vs₀ ns₀ is₀ t₀ place₀ k₀ vs ns is t place k = holes - k
@@ -26,7 +26,7 @@ loop-holds c =
     let z = c .before .before .before .before in
     let a = z .args in
     let start = counts-start (λ j. u16At (a .s .now) (a .counts + 2 * j)) (a .holes) in
-    (omega arith, refl, refl, refl, omega (arith, start, z .pre .0 .1), room-less (z .pre .1) (omega (arith, start)) (omega (arith, start)), holes-start (a .limit) (a .before) (a .s .now) (a .lid) (λ j. u16At (a .s .now) (a .counts + 2 * j)) (a .holes) (a .at) _)
+    (omega arith, refl, refl, refl, omega (arith, start, z .pre .0 .1), countable-less (z .pre .1) (omega (arith, start)) (omega (arith, start)), holes-start (a .limit) (a .before) (a .s .now) (a .lid) (λ j. u16At (a .s .now) (a .counts + 2 * j)) (a .holes) (a .at) _)
 
 mul-place : tie.Need-mul-place Inv-loop μ-loop
 mul-place c =
@@ -49,7 +49,7 @@ walls-requires c κs =
     let l = c .before .before .before .before .before .before .before .loop in
     let left = counts-next (λ j. u16At (a .s .now) (a .counts + 2 * j)) (a .holes) (l .k) (c .before .before .before .before .before .before .loop-test .taken) in
     let n = c .before .before .before .before .before .u16-at .ensures in
-    (omega (arith, left, n, l .inv .4), le-refl _, room-less (l .inv .5) (omega (arith, left, n)) (omega (arith, left, n)))
+    (omega (arith, left, n, l .inv .4), le-refl _, countable-less (l .inv .5) (omega (arith, left, n)) (omega (arith, left, n)))
 
 loop-again : tie.Need-loop-again Inv-loop μ-loop
 loop-again c =
@@ -62,7 +62,7 @@ loop-again c =
     let count = c .before .before .before .before .before .before .before .before .before .before .before .before .u16-at .result in
     let left = counts-next (λ j. u16At s (a .counts + 2 * j)) (a .holes) (l .k) below in
     let drew = hole-drew s count (l .place) (a .lid) (c .before .before .before .before .before .before .before .before .before .before .before .about .ensures) (c .before .before .before .before .before .before .before .before .before .before .neg .ensures) (c .before .before .before .before .before .before .walls .ensures) in
-    (omega arith, c .before .before .before .before .before .vs .given ∙ i .1, c .before .before .before .ns .given ∙ i .2, c .before .is .given ∙ i .3, omega (arith, left, n, i .4), hole-room s count (l .place) (a .lid) (countsLeft (λ j. u16At s (a .counts + 2 * j)) (a .holes) (l .k)) (countsLeft (λ j. u16At s (a .counts + 2 * j)) (a .holes) (l .k + 1)) (i .5) drew (omega (arith, left, n)), holes-next (a .limit) (a .before) s (a .lid) (λ j. u16At s (a .counts + 2 * j)) (a .holes) (l .k) (l .place) count below n drew (i .6))
+    (omega arith, c .before .before .before .before .before .vs .given ∙ i .1, c .before .before .before .ns .given ∙ i .2, c .before .is .given ∙ i .3, omega (arith, left, n, i .4), hole-countable s count (l .place) (a .lid) (countsLeft (λ j. u16At s (a .counts + 2 * j)) (a .holes) (l .k)) (countsLeft (λ j. u16At s (a .counts + 2 * j)) (a .holes) (l .k + 1)) (i .5) drew (omega (arith, left, n)), holes-next (a .limit) (a .before) s (a .lid) (λ j. u16At s (a .counts + 2 * j)) (a .holes) (l .k) (l .place) count below n drew (i .6))
 
 returns : tie.Need-returns Inv-loop μ-loop
 returns c =

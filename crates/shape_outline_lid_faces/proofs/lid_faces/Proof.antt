@@ -5,10 +5,10 @@ use native.Mathlib.Omega.{arith}
 use lib.ListN.{length}
 use lib.Seq.{length-take-le}
 use Rattle.face_triangle.specs.Triangles.{trianglesIn}
-use Rattle.face.proofs.Draws.{room-less}
+use Rattle.face.proofs.Draws.{countable-less}
 use Rattle.face_draw.proofs.OneFace.{length-triangles}
 use Rattle.shape_outline_corners.proofs.CornerLaws.{bases-points, tops-points, points-length}
-use Rattle.shape_outline_lid_faces.proofs.LidLaws.{points-drawn, face-asks, face-room}
+use Rattle.shape_outline_lid_faces.proofs.LidLaws.{points-drawn, face-asks, face-countable}
 use Rattle.shape.specs.Stages.{lidFace, floorFaces}
 use Rattle.shape.proofs.Stages.{stages-none, stages-first, stages-empty}
 use Rattle.shape_outline_lid_faces.proofs.lid_faces.Statement.{statement}
@@ -21,7 +21,7 @@ face-requires c κs =
     let o = a .o in
     let s = a .s .now in
     let e = points-drawn s (o .n) (o .at + 12) _ _ (c .before .before .before .before .before .before .put-points .ensures) (z .pre .0 .1) in
-    face-asks (trianglesIn (a .triangles .now)) _ _ e (points-length s (o .n) (o .at + 12)) (room-less (z .pre .1 .0) (omega arith) (omega arith)) (z .pre .1 .1)
+    face-asks (trianglesIn (a .triangles .now)) _ _ e (points-length s (o .n) (o .at + 12)) (countable-less (z .pre .1 .0) (omega arith) (omega arith)) (z .pre .1 .1)
 
 face-requires-2 : tie.Need-face-requires-2
 face-requires-2 c κs =
@@ -31,8 +31,8 @@ face-requires-2 c κs =
     let s = a .s .now in
     let top = points-drawn s (o .n) (o .at + 12) _ _ (c .before .before .before .before .before .before .before .before .before .before .before .before .before .before .before .before .before .before .before .before .before .before .before .put-points .ensures) (z .pre .0 .1) in
     let e = points-drawn s (o .n) (o .at) _ _ (c .before .before .before .before .before .before .before .put-points2 .ensures) (omega (arith, z .pre .0 .1, c .before .before .before .before .before .before .before .before .before .before .before .before .before .before .before .before .before .before .before .before .before .before .points .given)) in
-    let room = face-room (o .n) (length (a .triangles .now) / 3) (z .pre .1 .0) (rw top at (c .before .before .before .before .before .before .before .before .before .before .before .before .before .before .before .before .face .ensures 2)) (points-length s (o .n) (o .at + 12)) (length-triangles (a .triangles .now)) in
-    face-asks (trianglesIn (a .triangles .now)) _ _ e (points-length s (o .n) (o .at)) room (z .pre .1 .1)
+    let countable = face-countable (o .n) (length (a .triangles .now) / 3) (z .pre .1 .0) (rw top at (c .before .before .before .before .before .before .before .before .before .before .before .before .before .before .before .before .face .ensures 2)) (points-length s (o .n) (o .at + 12)) (length-triangles (a .triangles .now)) in
+    face-asks (trianglesIn (a .triangles .now)) _ _ e (points-length s (o .n) (o .at)) countable (z .pre .1 .1)
 
 returns : tie.Need-returns
 unfolding lidFace floorFaces

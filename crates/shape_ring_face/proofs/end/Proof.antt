@@ -2,7 +2,7 @@
 use mathlib.Core.Path.{_≡_}
 use lib.ListN.{length}
 use borrow.Author.Needs.{needs}
-use Rattle.shape_ring_face.proofs.EndLaws.{end-room, end-low, end-drew}
+use Rattle.shape_ring_face.proofs.EndLaws.{end-countable, end-low, end-drew}
 use Rattle.shape_ring_face.proofs.end.Statement.{statement}
 use Rattle.shape_ring_face.proofs.end.Tie as tie
 
@@ -10,7 +10,7 @@ face-requires : tie.Need-face-requires
 face-requires c κs =
     let s = c .before .before .before .before .before .before .before .before .before in
     let h : length (s .args .ring) ≡ 16 = search needs in
-    (end-room (s .args .ring) _ (c .before .before .before .before .before .numbers-of .ensures) h (s .pre), end-low (s .args .ring) _ (c .before .before .before .before .before .numbers-of .ensures) h)
+    (end-countable (s .args .ring) _ (c .before .before .before .before .before .numbers-of .ensures) h (s .pre), end-low (s .args .ring) _ (c .before .before .before .before .before .numbers-of .ensures) h)
 
 returns : tie.Need-returns
 returns c =

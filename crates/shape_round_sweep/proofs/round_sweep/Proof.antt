@@ -5,9 +5,9 @@ use Prim.Native.Nat.{ℕ, _+_, _-_, _*_, _<_}
 use native.Mathlib.Omega.{arith}
 use lib.ListN.{length}
 use Rattle.lists.specs.Loops.{list, sumOf}
-use Rattle.face.specs.Drawing.{drawing, Drew, Room}
+use Rattle.face.specs.Drawing.{drawing, Drew, Countable}
 use Rattle.face.specs.Faces.{fan}
-use Rattle.face.proofs.Draws.{drew-room, drew-none, drew-vertices, drew-normals, drew-indices, room-less}
+use Rattle.face.proofs.Draws.{drew-countable, drew-none, drew-vertices, drew-normals, drew-indices, countable-less}
 use Rattle.object.specs.declared.Section.{Section}
 use Rattle.scene_field.specs.Fields.{sectionAt, sectionsAt}
 use Rattle.shape.specs.Shapes.{pairs, ellipse, endFace, tubeFaces}
@@ -21,7 +21,7 @@ use Rattle.shape_round_sweep.proofs.round_sweep.Tie as tie
 abbrev Inv-loop : tie.InvT-loop
 Inv-loop s at n limit before vs₀ ns₀ is₀ first a₀ ca₀ u₀ k₀ vs ns is a ca u k =
     (k < n) × (a ≡ ellipse (sectionAt s (at + 48 * k)) .ring) × (ca ≡ ellipse (sectionAt s (at + 48 * k)) .centre)
-    × Drew limit (pairs tubeFaces (map ellipse (sectionsAt s (k + 1) at))) before (drawing u₀ vs₀ ns₀ is₀) (drawing u vs ns is) × Room before u (64 * (n - k)) (32 * (n - k))
+    × Drew limit (pairs tubeFaces (map ellipse (sectionsAt s (k + 1) at))) before (drawing u₀ vs₀ ns₀ is₀) (drawing u vs ns is) × Countable before u (64 * (n - k)) (32 * (n - k))
 
 abbrev μ-loop : tie.MeasureT-loop
 μ-loop s at n limit before vs₀ ns₀ is₀ first a₀ ca₀ u₀ k₀ vs ns is a ca u k = n - k
@@ -34,26 +34,26 @@ returns c = let a = c .before .before .before .before .before .args in rw (round
 
 loop-holds : tie.Need-loop-holds Inv-loop μ-loop
 unfolding pairs sectionsAt list
-loop-holds c = let a = c .before .before .before .before .before .before .before .before .args in let e : a .at ≡ a .at + 48 * 0 = omega arith in let h : 0 < a .n = omega (arith, c .before .before .before .if1 .left) in (h, first-is (c .before) ∙ ap (λ (p : ℕ). ellipse (sectionAt (a .s .now) p) .ring) e, c .centre-at .ensures ∙ ap (λ (p : ℕ). ellipse (sectionAt (a .s .now) p) .centre) e, drew-none (a .limit) (a .before) _, room-less (c .before .before .before .before .before .before .before .before .pre .1) (omega arith) (omega arith))
+loop-holds c = let a = c .before .before .before .before .before .before .before .before .args in let e : a .at ≡ a .at + 48 * 0 = omega arith in let h : 0 < a .n = omega (arith, c .before .before .before .if1 .left) in (h, first-is (c .before) ∙ ap (λ (p : ℕ). ellipse (sectionAt (a .s .now) p) .ring) e, c .centre-at .ensures ∙ ap (λ (p : ℕ). ellipse (sectionAt (a .s .now) p) .centre) e, drew-none (a .limit) (a .before) _, countable-less (c .before .before .before .before .before .before .before .before .pre .1) (omega arith) (omega arith))
 
 tube-requires : tie.Need-tube-requires Inv-loop μ-loop
-tube-requires c κs = room-less (c .before .before .before .before .before .before .before .loop .inv .4) (omega arith) (omega arith)
+tube-requires c κs = countable-less (c .before .before .before .before .before .before .before .loop .inv .4) (omega arith) (omega arith)
 
 add-k : tie.Need-add-k Inv-loop μ-loop
 add-k c = omega (arith, c .before .before .before .before .before .before .before .before .before .before .before .before .before .loop-test .taken, c .before .before .before .before .before .before .before .before .before .before .before .before .before .before .before .before .before .before .before .before .before .before .before .pre .1 .vertices)
 
 loop-again : tie.Need-loop-again Inv-loop μ-loop
-loop-again c = let a = c .before .before .before .before .before .before .before .before .before .before .before .before .before .before .before .before .before .before .before .before .before .before .before .args in let l = c .before .before .before .before .before .before .before .before .before .before .before .before .before .before .loop in let p = c .before .before .before .before .before .before .tube .ensures in let g = c .before .before .before .before .before .before .before .before .before .before .before .before .section-at2 .ensures in let y = c .before .before .before .before .before .before .before .before .before .before .before .ellipse2 .ensures ∙ ap (λ (x : Section). ellipse x .ring) g in let z = c .before .before .before .before .before .before .before .before .before .before .centre .ensures ∙ ap (λ (x : Section). ellipse x .centre) g in (c .before .before .before .before .before .before .before .before .before .before .before .before .before .loop-test .taken, y, z, tube-drawn (a .s .now) (a .at) (l .k) (l .inv .3) (ap₂ ringAbout (l .inv .2) (l .inv .1)) (ap₂ ringAbout z y) p, drew-room (a .limit) (l .inv .4) p (omega (arith, tube-points (ringAbout (l .ca) (l .a)) (ringAbout (c .before .before .before .before .before .before .before .before .before .before .centre .result) (c .before .before .before .before .before .before .before .before .before .before .before .ellipse2 .result)))) (omega (arith, tube-triangles (ringAbout (l .ca) (l .a)) (ringAbout (c .before .before .before .before .before .before .before .before .before .before .centre .result) (c .before .before .before .before .before .before .before .before .before .before .before .ellipse2 .result)))))
+loop-again c = let a = c .before .before .before .before .before .before .before .before .before .before .before .before .before .before .before .before .before .before .before .before .before .before .before .args in let l = c .before .before .before .before .before .before .before .before .before .before .before .before .before .before .loop in let p = c .before .before .before .before .before .before .tube .ensures in let g = c .before .before .before .before .before .before .before .before .before .before .before .before .section-at2 .ensures in let y = c .before .before .before .before .before .before .before .before .before .before .before .ellipse2 .ensures ∙ ap (λ (x : Section). ellipse x .ring) g in let z = c .before .before .before .before .before .before .before .before .before .before .centre .ensures ∙ ap (λ (x : Section). ellipse x .centre) g in (c .before .before .before .before .before .before .before .before .before .before .before .before .before .loop-test .taken, y, z, tube-drawn (a .s .now) (a .at) (l .k) (l .inv .3) (ap₂ ringAbout (l .inv .2) (l .inv .1)) (ap₂ ringAbout z y) p, drew-countable (a .limit) (l .inv .4) p (omega (arith, tube-points (ringAbout (l .ca) (l .a)) (ringAbout (c .before .before .before .before .before .before .before .before .before .before .centre .result) (c .before .before .before .before .before .before .before .before .before .before .before .ellipse2 .result)))) (omega (arith, tube-triangles (ringAbout (l .ca) (l .a)) (ringAbout (c .before .before .before .before .before .before .before .before .before .before .centre .result) (c .before .before .before .before .before .before .before .before .before .before .before .ellipse2 .result)))))
 
 places-of-requires : tie.Need-places-of-requires Inv-loop μ-loop
 places-of-requires c κs = (omega arith, omega (arith, c .before .before .before .before .before .before .before .before .before .before .pre .0))
 
 end-requires : tie.Need-end-requires Inv-loop μ-loop
-end-requires c κs = room-less (c .before .before .before .before .before .before .before .before .before .before .loop .inv .4) (omega (arith, c .before .before .before .before .before .before .before .before .before .before .loop .inv .0)) (omega (arith, c .before .before .before .before .before .before .before .before .before .before .loop .inv .0))
+end-requires c κs = countable-less (c .before .before .before .before .before .before .before .before .before .before .loop .inv .4) (omega (arith, c .before .before .before .before .before .before .before .before .before .before .loop .inv .0)) (omega (arith, c .before .before .before .before .before .before .before .before .before .before .loop .inv .0))
 
 end-requires-2 : tie.Need-end-requires-2 Inv-loop μ-loop
 unfolding endFace fan list sumOf
-end-requires-2 c κs = let h : length (c .before .before .before .before .before .before .before .before .before .before .before .before .before .before .before .before .before .before .before .before .before .before .ellipse .result) ≡ 16 = ap length (first-is (c .before .before .before .before .before .before .before .before .before .before .before .before .before .before .before .before .before .before .before .before .before .before)) ∙ ring-size _ in drew-room (c .before .before .before .before .before .before .before .before .before .before .before .before .before .before .before .before .before .before .before .before .before .before .before .before .before .before .before .before .before .args .limit) (c .before .before .before .before .before .before .before .before .before .before .before .before .before .before .before .before .before .before .before .before .loop .inv .4) (c .before .before .before .before .before .before .before .before .before .end .ensures 4) (omega (arith, c .before .before .before .before .before .before .before .before .before .before .before .before .before .before .before .before .before .before .before .before .loop .inv .0)) (omega (arith, c .before .before .before .before .before .before .before .before .before .before .before .before .before .before .before .before .before .before .before .before .loop .inv .0))
+end-requires-2 c κs = let h : length (c .before .before .before .before .before .before .before .before .before .before .before .before .before .before .before .before .before .before .before .before .before .before .ellipse .result) ≡ 16 = ap length (first-is (c .before .before .before .before .before .before .before .before .before .before .before .before .before .before .before .before .before .before .before .before .before .before)) ∙ ring-size _ in drew-countable (c .before .before .before .before .before .before .before .before .before .before .before .before .before .before .before .before .before .before .before .before .before .before .before .before .before .before .before .before .before .args .limit) (c .before .before .before .before .before .before .before .before .before .before .before .before .before .before .before .before .before .before .before .before .loop .inv .4) (c .before .before .before .before .before .before .before .before .before .end .ensures 4) (omega (arith, c .before .before .before .before .before .before .before .before .before .before .before .before .before .before .before .before .before .before .before .before .loop .inv .0)) (omega (arith, c .before .before .before .before .before .before .before .before .before .before .before .before .before .before .before .before .before .before .before .before .loop .inv .0))
 
 returns-2 : tie.Need-returns-2 Inv-loop μ-loop
 returns-2 c = let a = c .before .before .before .before .before .before .before .before .before .before .before .before .before .before .before .before .before .before .before .before .before .before .before .before .before .before .before .before .before .before .before .before .before .before .before .before .args in let l = c .before .before .before .before .before .before .before .before .before .before .before .before .before .before .before .before .before .before .before .before .before .before .before .before .before .before .before .loop in let h = c .before .before .before .before .before .before .before .before .before .before .before .before .before .before .before .before .before .before .before .before .before .before .before .before .before .before .loop-test .left in let e : l .k + 1 ≡ a .n = omega (arith, l .inv .0) in round-drawn (a .s .now) (a .at) (a .n) (l .k) e (c .before .before .before .before .before .before .before .before .before .before .before .before .before .before .before .before .before .before .before .before .before .before .before .before .before .places-of .ensures) (first-is (c .before .before .before .before .before .before .before .before .before .before .before .before .before .before .before .before .before .before .before .before .before .before .before .before .before .before .before .before .before)) (l .inv .1) (c .before .before .before .before .before .before .before .before .before .before .before .before .before .before .before .before .before .before .before .before .before .before .before .before .centre-at2 .ensures) (c .before .before .before .before .before .before .before .before .before .before .before .before .before .before .before .before .before .before .before .before .before .before .before .centre-at3 .ensures) (l .inv .2) (c .before .before .before .before .before .before .before .before .before .before .before .before .before .before .before .before .before .before .before .before .before .centre-at4 .ensures) (c .before .before .before .before .before .before .before .before .before .before .before .before .before .before .before .before .before .before .before .before .before .before .sub .ensures) (c .before .before .before .before .before .before .before .before .before .before .before .before .before .before .before .before .before .before .before .before .sub2 .ensures) (l .inv .3) (c .before .before .before .before .before .before .before .before .before .before .before .before .before .before .before .before .end .ensures 4) (c .before .before .before .before .before .before .end2 .ensures 4)

@@ -4,8 +4,8 @@ use Prim.Native.Nat.{ℕ, _+_, _-_, _*_, _<_}
 use native.Mathlib.Omega.{arith}
 use Rattle.lists.specs.Loops.{list, sumOf}
 use Rattle.face.specs.Faces.{fan, quad}
-use Rattle.face.specs.Drawing.{drawing, Drew, Room}
-use Rattle.face.proofs.Draws.{drew-room, drew-none, drew-vertices, drew-normals, drew-indices, room-less}
+use Rattle.face.specs.Drawing.{drawing, Drew, Countable}
+use Rattle.face.proofs.Draws.{drew-countable, drew-none, drew-vertices, drew-normals, drew-indices, countable-less}
 use Rattle.scene_field.specs.Fields.{sectionAt, sectionsAt}
 use Rattle.shape.specs.Shapes.{pairFaces, pairs}
 use Rattle.shape.proofs.Stages.{stages-nothing}
@@ -17,7 +17,7 @@ use Rattle.shape_sweep.proofs.sweep.Tie as tie
 abbrev Inv-loop : tie.InvT-loop
 Inv-loop s at n limit before vs₀ ns₀ is₀ a₀ u₀ k₀ vs ns is a u k =
     (k < n) × (a ≡ sectionAt s (at + 48 * k)) × Drew limit (pairs pairFaces (sectionsAt s (k + 1) at)) before (drawing u₀ vs₀ ns₀ is₀) (drawing u vs ns is)
-    × Room before u (16 * (n - k)) (8 * (n - k))
+    × Countable before u (16 * (n - k)) (8 * (n - k))
 
 abbrev μ-loop : tie.MeasureT-loop
 μ-loop s at n limit before vs₀ ns₀ is₀ a₀ u₀ k₀ vs ns is a u k = n - k
@@ -27,27 +27,27 @@ returns c = let a = c .before .before .before .before .before .args in rw (sweep
 
 loop-holds : tie.Need-loop-holds Inv-loop μ-loop
 unfolding pairs sectionsAt list
-loop-holds c = let a = c .before .before .before .before .before .before .args in let e : a .at ≡ a .at + 48 * 0 = omega arith in let h : 0 < a .n = omega (arith, c .before .if1 .left) in (h, c .section-at .ensures ∙ ap (λ (p : ℕ). sectionAt (a .s .now) p) e, drew-none (a .limit) (a .before) _, room-less (c .before .before .before .before .before .before .pre .1) (omega arith) (omega arith))
+loop-holds c = let a = c .before .before .before .before .before .before .args in let e : a .at ≡ a .at + 48 * 0 = omega arith in let h : 0 < a .n = omega (arith, c .before .if1 .left) in (h, c .section-at .ensures ∙ ap (λ (p : ℕ). sectionAt (a .s .now) p) e, drew-none (a .limit) (a .before) _, countable-less (c .before .before .before .before .before .before .pre .1) (omega arith) (omega arith))
 
 pair-requires : tie.Need-pair-requires Inv-loop μ-loop
-pair-requires c κs = room-less (c .before .before .before .before .before .loop .inv .3) (omega arith) (omega arith)
+pair-requires c κs = countable-less (c .before .before .before .before .before .loop .inv .3) (omega arith) (omega arith)
 
 add-k : tie.Need-add-k Inv-loop μ-loop
 add-k c = omega (arith, c .before .before .before .before .before .before .before .before .before .before .before .loop-test .taken, c .before .before .before .before .before .before .before .before .before .before .before .before .before .before .before .before .before .before .before .pre .1 .vertices)
 
 loop-again : tie.Need-loop-again Inv-loop μ-loop
 unfolding sectionsAt
-loop-again c = let a = c .before .before .before .before .before .before .before .before .before .before .before .before .before .before .before .before .before .before .before .args in let l = c .before .before .before .before .before .before .before .before .before .before .before .before .loop in let p = c .before .before .before .before .before .before .pair .ensures in (c .before .before .before .before .before .before .before .before .before .before .before .loop-test .taken, c .before .before .before .before .before .before .before .before .before .before .section-at2 .ensures, pair-drawn pairFaces (λ k. sectionAt (a .s .now) (a .at + 48 * k)) (l .k) (l .inv .2) (l .inv .1) (c .before .before .before .before .before .before .before .before .before .before .section-at2 .ensures) p, drew-room (a .limit) (l .inv .3) p (omega (arith, pair-points (l .a) (c .before .before .before .before .before .before .before .before .before .before .section-at2 .result))) (omega (arith, pair-triangles (l .a) (c .before .before .before .before .before .before .before .before .before .before .section-at2 .result))))
+loop-again c = let a = c .before .before .before .before .before .before .before .before .before .before .before .before .before .before .before .before .before .before .before .args in let l = c .before .before .before .before .before .before .before .before .before .before .before .before .loop in let p = c .before .before .before .before .before .before .pair .ensures in (c .before .before .before .before .before .before .before .before .before .before .before .loop-test .taken, c .before .before .before .before .before .before .before .before .before .before .section-at2 .ensures, pair-drawn pairFaces (λ k. sectionAt (a .s .now) (a .at + 48 * k)) (l .k) (l .inv .2) (l .inv .1) (c .before .before .before .before .before .before .before .before .before .before .section-at2 .ensures) p, drew-countable (a .limit) (l .inv .3) p (omega (arith, pair-points (l .a) (c .before .before .before .before .before .before .before .before .before .before .section-at2 .result))) (omega (arith, pair-triangles (l .a) (c .before .before .before .before .before .before .before .before .before .before .section-at2 .result))))
 
 places-of-requires : tie.Need-places-of-requires Inv-loop μ-loop
 places-of-requires c κs = (omega arith, omega (arith, c .before .before .before .before .before .before .before .before .pre .0))
 
 quad-requires : tie.Need-quad-requires Inv-loop μ-loop
-quad-requires c κs = room-less (c .before .before .before .before .before .before .before .before .loop .inv .3) (omega (arith, c .before .before .before .before .before .before .before .before .loop .inv .0)) (omega (arith, c .before .before .before .before .before .before .before .before .loop .inv .0))
+quad-requires c κs = countable-less (c .before .before .before .before .before .before .before .before .loop .inv .3) (omega (arith, c .before .before .before .before .before .before .before .before .loop .inv .0)) (omega (arith, c .before .before .before .before .before .before .before .before .loop .inv .0))
 
 quad-requires-2 : tie.Need-quad-requires-2 Inv-loop μ-loop
 unfolding quad fan list sumOf
-quad-requires-2 c κs = drew-room (c .before .before .before .before .before .before .before .before .before .before .before .before .before .before .before .before .before .before .before .before .before .before .before .before .before .before .before .args .limit) (c .before .before .before .before .before .before .before .before .before .before .before .before .before .before .before .before .before .before .before .before .loop .inv .3) (c .before .before .before .before .before .before .before .before .before .before .before .quad .ensures 4) (omega (arith, c .before .before .before .before .before .before .before .before .before .before .before .before .before .before .before .before .before .before .before .before .loop .inv .0)) (omega (arith, c .before .before .before .before .before .before .before .before .before .before .before .before .before .before .before .before .before .before .before .before .loop .inv .0))
+quad-requires-2 c κs = drew-countable (c .before .before .before .before .before .before .before .before .before .before .before .before .before .before .before .before .before .before .before .before .before .before .before .before .before .before .before .args .limit) (c .before .before .before .before .before .before .before .before .before .before .before .before .before .before .before .before .before .before .before .before .loop .inv .3) (c .before .before .before .before .before .before .before .before .before .before .before .quad .ensures 4) (omega (arith, c .before .before .before .before .before .before .before .before .before .before .before .before .before .before .before .before .before .before .before .before .loop .inv .0)) (omega (arith, c .before .before .before .before .before .before .before .before .before .before .before .before .before .before .before .before .before .before .before .before .loop .inv .0))
 
 returns-2 : tie.Need-returns-2 Inv-loop μ-loop
 returns-2 c = let a = c .before .before .before .before .before .before .before .before .before .before .before .before .before .before .before .before .before .before .before .before .before .before .before .before .before .before .before .before .before .before .before .before .before .before .args in let l = c .before .before .before .before .before .before .before .before .before .before .before .before .before .before .before .before .before .before .before .before .before .before .before .before .before .before .before .loop in let h = c .before .before .before .before .before .before .before .before .before .before .before .before .before .before .before .before .before .before .before .before .before .before .before .before .before .before .loop-test .left in let e : l .k + 1 ≡ a .n = omega (arith, h, l .inv .0) in sweep-drawn (a .s .now) (a .at) (a .n) (l .k) e (c .before .before .before .before .before .before .before .before .before .before .before .before .before .before .before .before .before .before .before .before .before .before .before .before .before .places-of .ensures) (c .before .before .before .before .before .before .before .before .before .before .before .before .before .before .before .before .before .before .before .before .before .before .before .before .section-at3 .ensures) (l .inv .1) (c .before .before .before .before .before .before .before .before .before .before .before .before .before .before .before .before .before .before .before .before .before .before .before .point-at .ensures) (c .before .before .before .before .before .before .before .before .before .before .before .point-at2 .ensures) (c .before .before .before .before .before .before .before .before .before .before .before .before .before .before .before .before .before .before .before .before .before .before .sub .ensures) (c .before .before .before .before .before .before .before .before .before .before .sub2 .ensures) (l .inv .2) (c .before .before .before .before .before .before .before .before .before .before .before .before .before .before .before .before .before .before .quad .ensures 4) (c .before .before .before .before .before .before .quad2 .ensures 4)

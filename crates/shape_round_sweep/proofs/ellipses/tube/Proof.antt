@@ -4,8 +4,8 @@ use Prim.Native.Nat.{_-_, _*_, _≤_}
 use native.Mathlib.Omega.{arith}
 use lib.ListN.{length}
 use Rattle.lists.specs.Loops.{list}
-use Rattle.face.specs.Drawing.{drawing, Drew, Room}
-use Rattle.face.proofs.Draws.{drew-none, drew-vertices, drew-normals, drew-indices, room-less}
+use Rattle.face.specs.Drawing.{drawing, Drew, Countable}
+use Rattle.face.proofs.Draws.{drew-none, drew-vertices, drew-normals, drew-indices, countable-less}
 use Rattle.shape.specs.Shapes.{tubeSide, tubeFaces}
 use Rattle.shape_round_sweep.specs.Rings.{ringAbout}
 use Rattle.shape_round_sweep.proofs.RingFaces.{side-drawn}
@@ -14,17 +14,17 @@ use Rattle.shape_round_sweep.proofs.ellipses.tube.Tie as tie
 
 abbrev Inv-loop : tie.InvT-loop
 Inv-loop ca cb limit before vs₀ ns₀ is₀ a b u₀ k₀ vs ns is u k =
-    (k ≤ 16) × Drew limit (list (tubeSide (ringAbout ca a) (ringAbout cb b)) k 0) before (drawing u₀ vs₀ ns₀ is₀) (drawing u vs ns is) × Room before u (4 * (16 - k)) (2 * (16 - k))
+    (k ≤ 16) × Drew limit (list (tubeSide (ringAbout ca a) (ringAbout cb b)) k 0) before (drawing u₀ vs₀ ns₀ is₀) (drawing u vs ns is) × Countable before u (4 * (16 - k)) (2 * (16 - k))
 
 abbrev μ-loop : tie.MeasureT-loop
 μ-loop ca cb limit before vs₀ ns₀ is₀ a b u₀ k₀ vs ns is u k = 16 - k
 
 loop-holds : tie.Need-loop-holds Inv-loop μ-loop
 unfolding list
-loop-holds c = (omega arith, drew-none (c .before .before .before .args .limit) (c .before .before .before .args .before) _, room-less (c .before .before .before .pre) (omega arith) (omega arith))
+loop-holds c = (omega arith, drew-none (c .before .before .before .args .limit) (c .before .before .before .args .before) _, countable-less (c .before .before .before .pre) (omega arith) (omega arith))
 
 quad-requires : tie.Need-quad-requires Inv-loop μ-loop
-quad-requires c κs = room-less (c .before .before .before .before .before .before .before .before .before .loop .inv .2) (omega arith) (omega arith)
+quad-requires c κs = countable-less (c .before .before .before .before .before .before .before .before .before .loop .inv .2) (omega arith) (omega arith)
 
 -- a ring has sixteen points
 rings-sized : (s : tie.Start Inv-loop μ-loop) → (length (s .args .t2) ≡ 16) × (length (s .args .t4) ≡ 16)

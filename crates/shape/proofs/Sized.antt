@@ -1,4 +1,4 @@
--- The points and triangles of a list of faces, at the most, and so the room that drawing them leaves. Assumes nothing.
+-- The points and triangles of a list of faces, at the most, and so how many more can be counted after drawing them. Assumes nothing.
 use mathlib.Core.Path.{_≡_, refl}
 use mathlib.Core.Bool.{Bool, cond}
 use mathlib.Core.List.{List, [], _∷_, _++_}
@@ -10,9 +10,9 @@ use Rattle.lists.specs.Loops.{list, sumOf}
 use Rattle.lists.proofs.Lists.{sum-append, sum-list}
 use Rattle.lists.proofs.Loops.{either}
 use Rattle.face.specs.Faces.{Face}
-use Rattle.face.specs.Drawing.{Drawing, Drew, Room}
+use Rattle.face.specs.Drawing.{Drawing, Drew, Countable}
 use Rattle.face.proofs.Counts.{count}
-use Rattle.face.proofs.Draws.{drew-room}
+use Rattle.face.proofs.Draws.{drew-countable}
 
 pub record Sized (fs : List Face) (v k : ℕ) : Type 0 where
   pub points : sumOf (λ (f : Face). length (f .points)) fs ≤ v
@@ -34,6 +34,6 @@ sized-list f v k p q n = record {
   triangles = omega (arith, sum-list count k f q n 0);
 }
 
-pub room-left : (limit : Float) {fs : List Face} {before : ℕ} {d d′ : Drawing} {v k w j v′ k′ : ℕ}
-    → Room before (d .tally) w j → Drew limit fs before d d′ → Sized fs v k → v + v′ ≤ w → k + k′ ≤ j → Room before (d′ .tally) v′ k′
-room-left limit r p s h g = drew-room limit r p (omega arith) (omega arith)
+pub countable-left : (limit : Float) {fs : List Face} {before : ℕ} {d d′ : Drawing} {v k w j v′ k′ : ℕ}
+    → Countable before (d .tally) w j → Drew limit fs before d d′ → Sized fs v k → v + v′ ≤ w → k + k′ ≤ j → Countable before (d′ .tally) v′ k′
+countable-left limit r p s h g = drew-countable limit r p (omega arith) (omega arith)
