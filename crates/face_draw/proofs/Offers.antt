@@ -17,7 +17,7 @@ use Rattle.face_judge.specs.declared.Side.the-variants.{Thin, Front, Back}
 use Rattle.face_judge.specs.declared.Sum.{Sum}
 use Rattle.face_triangle.specs.Triangles.{Triangle, triangle}
 use Rattle.face.specs.Faces.{normal, isThin, isTurned, facing, keptFrom, addNormal, normalFrom, numbered}
-use Rattle.face_judge.specs.Offered.{sideOf, sideIn, cornersOf, gathered, Offered, offered, offerOne}
+use Rattle.face_judge.specs.Offered.{sideOf, sideIn, indicesOf, gathered, Offered, offered, offerOne}
 
 abbrev sums : Vector → ℕ → ℕ → Sum
 sums v kept thin = record { normal = v; kept = kept; thin = thin }
@@ -45,10 +45,10 @@ module _ (limit : Float) (ps : List Point) (out : Vector) (base n : ℕ) where
       (sets (o .indices) (3 * (n + o .sum .kept)) (numbered base kept))
 
   step : (thin turned : Bool) (v : Vector) (t : Triangle) (ts : List Triangle) (o : Offered)
-      → added (offered (gathered (sideBy thin turned v) (o .sum)) (sets (o .indices) (3 * (n + o .sum .kept)) (cornersOf (sideBy thin turned v) (base + t .a) (base + t .b) (base + t .c)))) ts
+      → added (offered (gathered (sideBy thin turned v) (o .sum)) (sets (o .indices) (3 * (n + o .sum .kept)) (indicesOf (sideBy thin turned v) (base + t .a) (base + t .b) (base + t .c)))) ts
       ≡ offered (sums (normalFrom limit ps out (addNormal thin turned (o .sum .normal) v) ts) (o .sum .kept + length (cond thin (keptFrom limit ps out ts) (cond turned (triangle (t .a) (t .c) (t .b)) t ∷ keptFrom limit ps out ts))) (o .sum .thin + (cond thin 1 0 + countOf (isThin limit ps) ts)))
       (sets (o .indices) (3 * (n + o .sum .kept)) (numbered base (cond thin (keptFrom limit ps out ts) (cond turned (triangle (t .a) (t .c) (t .b)) t ∷ keptFrom limit ps out ts))))
-  unfolding added gathered cornersOf sideBy addNormal numbered join
+  unfolding added gathered indicesOf sideBy addNormal numbered join
   step true turned v t ts o = same refl (omega arith) refl
   step false true v t ts o = same (omega arith) (omega arith) (more-behind (o .indices) n (o .sum .kept) (base + t .a) (base + t .c) (base + t .b) (numbered base (keptFrom limit ps out ts)))
   step false false v t ts o = same (omega arith) (omega arith) (more-behind (o .indices) n (o .sum .kept) (base + t .a) (base + t .b) (base + t .c) (numbered base (keptFrom limit ps out ts)))

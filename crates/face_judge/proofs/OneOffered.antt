@@ -15,7 +15,7 @@ use Rattle.face_judge.specs.declared.Side.{Side}
 use Rattle.face_judge.specs.declared.Side.the-variants.{Thin, Front, Back}
 use Rattle.face_judge.specs.declared.Sum.{Sum}
 use Rattle.face_triangle.specs.Triangles.{Triangle, triangle, TriangleLow}
-use Rattle.face_judge.specs.Offered.{sideOf, sideIn, cornersOf, gathered, Offered, offered, noSum, offerOne, offerAll}
+use Rattle.face_judge.specs.Offered.{sideOf, sideIn, indicesOf, gathered, Offered, offered, noSum, offerOne, offerAll}
 
 -- each triangle counts once
 gathered-one : (k : Side) (s : Sum) → gathered k s .kept + gathered k s .thin ≡ s .kept + s .thin + 1
@@ -39,8 +39,8 @@ one-counted limit ps out base n o p t e = rw e (gathered-one (sideIn limit ps ou
 
 -- the triangles of the points a, b, c and a, c, d, offered one after the other
 module _ (limit : Float) (out : Vector) (a b c d : Point) (base n : ℕ) (is : List ℕ) {js ks : List ℕ} {s r : Sum} where
-  pub two-offered : s ≡ gathered (sideOf limit out a b c) noSum → js ≡ sets is (3 * n) (cornersOf (sideOf limit out a b c) base (base + 1) (base + 2))
-      → r ≡ gathered (sideOf limit out a c d) s → ks ≡ sets js (3 * (n + s .kept)) (cornersOf (sideOf limit out a c d) base (base + 2) (base + 3))
+  pub two-offered : s ≡ gathered (sideOf limit out a b c) noSum → js ≡ sets is (3 * n) (indicesOf (sideOf limit out a b c) base (base + 1) (base + 2))
+      → r ≡ gathered (sideOf limit out a c d) s → ks ≡ sets js (3 * (n + s .kept)) (indicesOf (sideOf limit out a c d) base (base + 2) (base + 3))
       → offered r ks ≡ offerAll limit (a ∷ b ∷ c ∷ d ∷ []) out base n is (triangle 0 1 2 ∷ triangle 0 2 3 ∷ [])
   unfolding offerAll fold offerOne sideIn
   two-offered e f g h = rw (h, g, f, e, add-zero base, add-zero n)

@@ -34,10 +34,10 @@ unfoldable pub sideIn : Float → List Point → Vector → Triangle → Side
 sideIn limit ps out t = sideOf limit out (getD ps (t .a) origin) (getD ps (t .b) origin) (getD ps (t .c) origin)
 
 -- the indices of a kept triangle, turned where it faces away
-unfoldable pub cornersOf : Side → ℕ → ℕ → ℕ → List ℕ
-cornersOf Thin a b c = []
-cornersOf (Front n) a b c = a ∷ b ∷ c ∷ []
-cornersOf (Back n) a b c = a ∷ c ∷ b ∷ []
+unfoldable pub indicesOf : Side → ℕ → ℕ → ℕ → List ℕ
+indicesOf Thin a b c = []
+indicesOf (Front n) a b c = a ∷ b ∷ c ∷ []
+indicesOf (Back n) a b c = a ∷ c ∷ b ∷ []
 
 unfoldable pub gathered : Side → Sum → Sum
 gathered Thin s = record { normal = s .normal; kept = s .kept; thin = s .thin + 1 }
@@ -63,7 +63,7 @@ offerOne limit ps out base n o t =
     let k = sideIn limit ps out t in
     record {
       sum = gathered k (o .sum);
-      indices = sets (o .indices) (3 * (n + o .sum .kept)) (cornersOf k (base + t .a) (base + t .b) (base + t .c));
+      indices = sets (o .indices) (3 * (n + o .sum .kept)) (indicesOf k (base + t .a) (base + t .b) (base + t .c));
     }
 
 unfoldable pub offerAll : Float → List Point → Vector → ℕ → ℕ → List ℕ → List Triangle → Offered

@@ -7,7 +7,7 @@ ghost use lib.ListN.{length};
 ghost use lib.Seq.{sets};
 ghost use Rattle.coords.specs.Buffers.{verticesIn};
 ghost use Rattle.face_triangle.specs.Triangles.{triangle, TriangleLow, triangleAt, trianglesIn};
-ghost use Rattle.face_judge.specs.Offered.{sideOf, sideIn, cornersOf, gathered, quadTriangles, TrianglesAmong, CanOffer, OffersOne, OffersAll};
+ghost use Rattle.face_judge.specs.Offered.{sideOf, sideIn, indicesOf, gathered, quadTriangles, TrianglesAmong, CanOffer, OffersOne, OffersAll};
 use coords::Point;
 use coords_vector::Vector;
 
@@ -42,7 +42,7 @@ fn judge(limit: f32, out: Vector, a: Point, b: Point, c: Point) -> Side
 // One triangle offered: counted, and written at place n if it is kept.
 fn offer(s: Sum, k: Side, a: u32, b: u32, c: u32, n: u32, is: &mut [u32]) -> Sum
     requires { ⌜ (s .kept + 1 < 2 ^ 32) × (s .thin + 1 < 2 ^ 32) ⌝ }
-    ensures { λ r. ⌜ (r ≡ gathered k s) × (now (is .exit) ≡ sets (now (is .entry)) (3 * n) (cornersOf k a b c)) ⌝ }
+    ensures { λ r. ⌜ (r ≡ gathered k s) × (now (is .exit) ≡ sets (now (is .entry)) (3 * n) (indicesOf k a b c)) ⌝ }
 {
     let normal = s.normal;
     match k {

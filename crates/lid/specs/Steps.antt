@@ -26,8 +26,9 @@ use Rattle.lid.specs.Lid.{earsOf}
 abbrev pub cornerOf : ℕ → CornerNumber
 cornerOf i = record { 0 = i }
 
-abbrev pub cornersOf : List ℕ → ℕ → Corners
-cornersOf ring i = record { a = cornerOf (before ring i); b = cornerOf (here ring i); c = cornerOf (after ring i) }
+-- the corners before, at and after place i
+abbrev pub cornersAround : List ℕ → ℕ → Corners
+cornersAround ring i = record { a = cornerOf (before ring i); b = cornerOf (here ring i); c = cornerOf (after ring i) }
 
 -- `clear` with the flat corners a, b, c, q of the numbers
 abbrev pub clearBy : Corners → Flat → Flat → Flat → ℕ → Flat → Bool

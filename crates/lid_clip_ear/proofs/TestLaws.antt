@@ -13,12 +13,12 @@ use Rattle.lid.specs.declared.Corners.{Corners}
 use Rattle.lid.specs.declared.Tested.the-variants.{No}
 use Rattle.lid.specs.Rings.{corner, turn, turnOf}
 use Rattle.lid.specs.Clipping.{before, here, after, clear}
-use Rattle.lid.specs.Steps.{cornersOf}
+use Rattle.lid.specs.Steps.{cornersAround}
 use Rattle.lid_clip_notes.specs.Notes.{failedAt}
 use Rattle.lid_clip_ear.specs.Ears.{fails, told, tested, blocks, behind}
 use Rattle.lid_clip_ear.proofs.FirstLaws.{first-behind, first-same}
 
-module _ (fs : List Flat) (ring : List ℕ) (i q : ℕ) (t : Corners) (a b c : Flat) (corners : t ≡ cornersOf ring i)
+module _ (fs : List Flat) (ring : List ℕ) (i q : ℕ) (t : Corners) (a b c : Flat) (corners : t ≡ cornersAround ring i)
     (at-a : a ≡ corner fs (t .a .0)) (at-b : b ≡ corner fs (t .b .0)) (at-c : c ≡ corner fs (t .c .0)) where
   turns : (r : Bool) → lt zerof (turn a b c) ≡ r → lt zerof (turnOf fs (before ring i) (here ring i) (after ring i)) ≡ r
   unfolding turnOf

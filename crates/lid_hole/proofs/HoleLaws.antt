@@ -14,7 +14,7 @@ use Rattle.lid.specs.declared.Flat.{Flat}
 use Rattle.lid.specs.Rings.{tooSmall, turnHole}
 use Rattle.lid.specs.Written.{cornerTotal}
 use Rattle.lid.specs.Steps.{turned}
-use Rattle.lid_hole.specs.Holes.{startOf, holeCorners}
+use Rattle.lid_hole.specs.Holes.{holeStart, holeCorners}
 use Rattle.lid.proofs.Areas.Lid.{turnHole-length}
 use Rattle.lid_ring.proofs.RingLaws.{up}
 use Rattle.lid_splice.proofs.SpliceLaws.{front-back}
@@ -22,33 +22,33 @@ use Rattle.lid_splice.proofs.SpliceLaws.{front-back}
 -- ---- where a hole's corners start
 
 module _ (outer : ℕ) (counts : List ℕ) where
-  pub start-first : startOf outer counts 0 ≡ outer
-  unfolding startOf sumOf
+  pub start-first : holeStart outer counts 0 ≡ outer
+  unfolding holeStart sumOf
   start-first = add-zero outer
 
-  pub start-next : (k : ℕ) → k < length counts → startOf outer counts (k + 1) ≡ startOf outer counts k + getD counts k 0
-  unfolding startOf sumOf
+  pub start-next : (k : ℕ) → k < length counts → holeStart outer counts (k + 1) ≡ holeStart outer counts k + getD counts k 0
+  unfolding holeStart sumOf
   start-next k h =
       ap (λ (l : List ℕ). outer + sumOf (λ n. n) l) (ap (λ (n : ℕ). take n counts) (add-one k) ∙ take-suc counts k 0 h)
       ∙ omega (arith, sum-append (λ n. n) (take k counts) (getD counts k 0 ∷ []))
 
-  pub start-last : startOf outer counts (length counts) ≡ cornerTotal outer counts
-  unfolding startOf
+  pub start-last : holeStart outer counts (length counts) ≡ cornerTotal outer counts
+  unfolding holeStart
   start-last = ap (λ (l : List ℕ). outer + sumOf (λ n. n) l) (take-all (length counts) counts (le-refl (length counts)))
 
-  start-low : (k : ℕ) → startOf outer counts k ≤ cornerTotal outer counts
-  unfolding startOf
+  start-low : (k : ℕ) → holeStart outer counts k ≤ cornerTotal outer counts
+  unfolding holeStart
   start-low k = omega (arith, sum-append (λ n. n) (take k counts) (drop k counts), ap (sumOf (λ n. n)) (take-append-drop k counts))
 
-  pub start-in : (k : ℕ) → k < length counts → startOf outer counts k + getD counts k 0 ≤ cornerTotal outer counts
+  pub start-in : (k : ℕ) → k < length counts → holeStart outer counts k + getD counts k 0 ≤ cornerTotal outer counts
   start-in k h = omega (arith, start-low (k + 1), start-next k h)
 
   pub count-low : (k : ℕ) → k < length counts → getD counts k 0 ≤ sumOf (λ n. n) counts
-  unfolding startOf
+  unfolding holeStart
   count-low k h = omega (arith, start-in k h)
 
   -- hole g as `write_hole` leaves it: x stands in the first h places
-  module _ (fs : List Flat) (g h from : ℕ) (hole : List ℕ) (size : h ≡ getD counts g 0) (start : from ≡ startOf outer counts g) (fits : h ≤ length hole) where
+  module _ (fs : List Flat) (g h from : ℕ) (hole : List ℕ) (size : h ≡ getD counts g 0) (start : from ≡ holeStart outer counts g) (fits : h ≤ length hole) where
     corners-are : up from (length (take h hole)) ≡ holeCorners outer counts g
     unfolding holeCorners
     corners-are = ap₂ up start (length-take-le h hole fits ∙ size)

@@ -10,12 +10,12 @@ use Rattle.lid.specs.Log.{Entry, entry}
 use Rattle.lid.specs.Rings.{Hole, turnHole, tooSmall, right}
 
 -- the number of hole g's first corner
-unfoldable pub startOf : ℕ → List ℕ → ℕ → ℕ
-startOf outer counts g = outer + sumOf (λ n. n) (take g counts)
+unfoldable pub holeStart : ℕ → List ℕ → ℕ → ℕ
+holeStart outer counts g = outer + sumOf (λ n. n) (take g counts)
 
 -- hole g's corners as in the record; turned, they are its ring
 unfoldable pub holeCorners : ℕ → List ℕ → ℕ → List ℕ
-holeCorners outer counts g = list (λ i. i) (getD counts g 0) (startOf outer counts g)
+holeCorners outer counts g = list (λ i. i) (getD counts g 0) (holeStart outer counts g)
 
 abbrev pub holeRing : List Flat → ℕ → List ℕ → ℕ → List ℕ
 holeRing fs outer counts g = turnHole fs (holeCorners outer counts g)

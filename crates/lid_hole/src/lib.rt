@@ -4,14 +4,14 @@ ghost use Prim.Native.Nat.{_<_, _≤_, _^_};
 ghost use lib.ListN.{length, getD, take};
 ghost use Rattle.lid.specs.Rings.{flatsIn, tooSmall};
 ghost use Rattle.lid.specs.Written.{cornerTotal};
-ghost use Rattle.lid_hole.specs.Holes.{startOf, holeCorners, holeRing};
+ghost use Rattle.lid_hole.specs.Holes.{holeStart, holeCorners, holeRing};
 use lid_ring::write_ring;
 
 // The number of hole g's first corner; past the last hole, how many corners there are.
 pub fn hole_start(outer: u32, counts: &[u32], g: usize) -> u32
     requires { ⌜ g ≤ length (now counts) ⌝ }
     requires { ⌜ cornerTotal outer (now counts) < 2 ^ 32 ⌝ }
-    ensures { λ r. ⌜ r ≡ startOf outer (now (counts .entry)) g ⌝ }
+    ensures { λ r. ⌜ r ≡ holeStart outer (now (counts .entry)) g ⌝ }
 {
     let mut start = outer;
     let mut k = 0;

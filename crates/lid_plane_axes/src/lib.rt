@@ -8,7 +8,7 @@ use coords_vector::Vector;
 use lid::Flat;
 
 // The lid's normal or its reverse, from the vector area of a ring's bases.
-pub fn about(area: Vector, lid: Vector) -> Vector
+pub fn about_from(area: Vector, lid: Vector) -> Vector
     ensures { λ r. ⌜ r ≡ aboutFrom area lid ⌝ }
 {
     lid.scale(float_sign::signum(area.dot(lid)))

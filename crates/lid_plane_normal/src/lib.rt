@@ -23,7 +23,7 @@ pub fn rise_step(sum: Vector, c: Corner) -> Vector
 
 // The lid's normal, from the vector area of the tops and the sum of the rises: away from the bases, or
 // up where they coincide with the tops.
-pub fn lid_normal(area: Vector, rise: Vector) -> Vector
+pub fn lid_normal_from(area: Vector, rise: Vector) -> Vector
     ensures { λ r. ⌜ r ≡ lidNormalFrom area rise ⌝ }
 {
     let up = Vector {

@@ -2,7 +2,7 @@
 ghost use mathlib.Core.Path.{_≡_};
 ghost use Prim.Native.Nat.{_<_};
 ghost use lib.ListN.{length, getD};
-ghost use Rattle.lid.specs.Steps.{cornerOf, cornersOf};
+ghost use Rattle.lid.specs.Steps.{cornerOf, cornersAround};
 use lid::CornerNumber;
 use lid::Corners;
 use lid::RingPlace;
@@ -31,7 +31,7 @@ pub fn number_at(ring: &[u32], at: RingPlace) -> CornerNumber
 // The corners before, at and after a place.
 pub fn corners_at(ring: &[u32], at: RingPlace) -> Corners
     requires { ⌜ at .0 < length (now ring) ⌝ }
-    ensures { λ r. ⌜ r ≡ cornersOf (now (ring .entry)) (at .0) ⌝ }
+    ensures { λ r. ⌜ r ≡ cornersAround (now (ring .entry)) (at .0) ⌝ }
 {
     let n = ring.len();
     let before = place_before(n, at);

@@ -20,7 +20,7 @@ use Rattle.lid.specs.Clipping.{clip}
 use Rattle.lid.specs.Lid.{lidFrom, lidRings, lidOf}
 use Rattle.lid.specs.Written.{logWith, triangleNumbers, cornerTotal, WritesLid}
 use Rattle.lid.specs.Steps.{turned}
-use Rattle.lid_hole.specs.Holes.{startOf, holeAt, rightsOf, smallOf, skips, Joinable}
+use Rattle.lid_hole.specs.Holes.{holeStart, holeAt, rightsOf, smallOf, skips, Joinable}
 use Rattle.lid_hole_order.specs.Order.{orderOf, Ordered}
 use Rattle.lid_cut.specs.CutRing.{ringEntries, ringTriangles}
 use Rattle.lid_triangulate.specs.Opened.{openEntries, openTriangles, lidOpen, BuffersFit, Prepares}
@@ -77,7 +77,7 @@ buffers-fit outer counts n few holes places = record { holes = holes; places = o
 pub all-places : (outer : ℕ) (counts : List ℕ) → cornerTotal outer counts ≤ 512 → length counts ≤ 32 → cornerTotal outer counts + (length counts + length counts) ≤ 576
 all-places outer counts corners holes = omega (arith, corners, holes)
 
-pub few-places : (outer : ℕ) (counts : List ℕ) (corners : ℕ) → corners ≡ startOf outer counts (length counts) → corners + 2 * length counts ≤ 32
+pub few-places : (outer : ℕ) (counts : List ℕ) (corners : ℕ) → corners ≡ holeStart outer counts (length counts) → corners + 2 * length counts ≤ 32
     → cornerTotal outer counts + (length counts + length counts) ≤ 32
 few-places outer counts corners e h = omega (arith, e, start-last outer counts, h)
 

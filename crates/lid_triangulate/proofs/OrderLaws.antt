@@ -20,7 +20,7 @@ use Rattle.float.specs.Signs.{totalLess}
 use Rattle.lid.specs.declared.Flat.{Flat}
 use Rattle.lid.specs.Log.{Entry, entry}
 use Rattle.lid.specs.Rings.{Hole, tooSmall, right, ringsFrom, holesFrom, skippedFrom, insert, inOrder}
-use Rattle.lid_hole.specs.Holes.{startOf, holeCorners, holeAt, rightsOf, smallOf, skips, Joinable}
+use Rattle.lid_hole.specs.Holes.{holeStart, holeCorners, holeAt, rightsOf, smallOf, skips, Joinable}
 use Rattle.lid_hole_order.specs.Order.{insertBy, orderStep, orderOf}
 use Rattle.lid.proofs.Facts.{adds, inOrder-sum, holesFrom-sum}
 use Rattle.lid_hole.proofs.HoleLaws.{start-first, start-next, count-low, hole-size}
@@ -82,31 +82,31 @@ module _ (fs : List Flat) (outer : ℕ) (counts : List ℕ) where
       go false later e = ap (λ (l : List Hole). hole g ∷ l) e
 
   rings-next : (k : ℕ) → k < length counts
-      → ringsFrom (startOf outer counts k) (drop k counts) ≡ holeCorners outer counts k ∷ ringsFrom (startOf outer counts (suc k)) (drop (suc k) counts)
+      → ringsFrom (holeStart outer counts k) (drop k counts) ≡ holeCorners outer counts k ∷ ringsFrom (holeStart outer counts (suc k)) (drop (suc k) counts)
   unfolding ringsFrom holeCorners
   rings-next k h =
-      let e : startOf outer counts (suc k) ≡ startOf outer counts k + getD counts k 0 = ap (startOf outer counts) (sym (add-one k)) ∙ start-next outer counts k h in
+      let e : holeStart outer counts (suc k) ≡ holeStart outer counts k + getD counts k 0 = ap (holeStart outer counts) (sym (add-one k)) ∙ start-next outer counts k h in
       rw (drop-cons counts k 0, e)
 
-  rings-none : (k : ℕ) → length counts ≤ k → ringsFrom (startOf outer counts k) (drop k counts) ≡ []
+  rings-none : (k : ℕ) → length counts ≤ k → ringsFrom (holeStart outer counts k) (drop k counts) ≡ []
   unfolding ringsFrom
   rings-none k h = rw (drop-of-length-le counts h)
 
   order-from : (n k : ℕ) → k + n ≡ length counts → (order : List ℕ) → Each (λ g. g < length counts) order
-      → map hole (loop (orderStep rights small) n k order) ≡ fold (λ sorted h. insert fs h sorted) (map hole order) (holesFrom fs k (ringsFrom (startOf outer counts k) (drop k counts)))
+      → map hole (loop (orderStep rights small) n k order) ≡ fold (λ sorted h. insert fs h sorted) (map hole order) (holesFrom fs k (ringsFrom (holeStart outer counts k) (drop k counts)))
   unfolding loop fold holesFrom
   order-from zero k e order q = rw (rings-none k (omega arith))
   order-from (suc n) k e order q =
       rw (rings-next k (omega arith), small-is k (omega arith)) (go (tooSmall fs (holeCorners outer counts k)) (λ o p. order-from n (suc k) (omega arith) o p))
     where
       go : (b : Bool) → ((o : List ℕ) → Each (λ g. g < length counts) o → map hole (loop (orderStep rights small) n (suc k) o)
-          ≡ fold (λ sorted h. insert fs h sorted) (map hole o) (holesFrom fs (suc k) (ringsFrom (startOf outer counts (suc k)) (drop (suc k) counts))))
+          ≡ fold (λ sorted h. insert fs h sorted) (map hole o) (holesFrom fs (suc k) (ringsFrom (holeStart outer counts (suc k)) (drop (suc k) counts))))
           → map hole (loop (orderStep rights small) n (suc k) (cond b order (insertBy rights k order)))
-          ≡ fold (λ sorted h. insert fs h sorted) (map hole order) (cond b (holesFrom fs (suc k) (ringsFrom (startOf outer counts (suc k)) (drop (suc k) counts))) (hole k ∷ holesFrom fs (suc k) (ringsFrom (startOf outer counts (suc k)) (drop (suc k) counts))))
+          ≡ fold (λ sorted h. insert fs h sorted) (map hole order) (cond b (holesFrom fs (suc k) (ringsFrom (holeStart outer counts (suc k)) (drop (suc k) counts))) (hole k ∷ holesFrom fs (suc k) (ringsFrom (holeStart outer counts (suc k)) (drop (suc k) counts))))
       go true later = later order q
       go false later =
           later (insertBy rights k order) (insertBy-each (λ g. g < length counts) rights k order (omega arith) q)
-          ∙ ap (λ (l : List Hole). fold (λ sorted h. insert fs h sorted) l (holesFrom fs (suc k) (ringsFrom (startOf outer counts (suc k)) (drop (suc k) counts)))) (insert-map k (omega arith) order q)
+          ∙ ap (λ (l : List Hole). fold (λ sorted h. insert fs h sorted) l (holesFrom fs (suc k) (ringsFrom (holeStart outer counts (suc k)) (drop (suc k) counts)))) (insert-map k (omega arith) order q)
 
   pub order-is : map hole (orderOf rights small) ≡ inOrder fs (holesFrom fs 0 (ringsFrom outer counts))
   unfolding orderOf inOrder
@@ -116,14 +116,14 @@ module _ (fs : List Flat) (outer : ℕ) (counts : List ℕ) where
       ∙ ap (λ (s : ℕ). fold (λ sorted h. insert fs h sorted) [] (holesFrom fs 0 (ringsFrom s counts))) (start-first outer counts)
 
   skips-from : (n k : ℕ) → k + n ≡ length counts
-      → skips k (list (λ g. tooSmall fs (holeCorners outer counts g)) n k) ≡ skippedFrom fs k (ringsFrom (startOf outer counts k) (drop k counts))
+      → skips k (list (λ g. tooSmall fs (holeCorners outer counts g)) n k) ≡ skippedFrom fs k (ringsFrom (holeStart outer counts k) (drop k counts))
   unfolding skips list skippedFrom
   skips-from zero k e = rw (rings-none k (omega arith))
   skips-from (suc n) k e = rw (rings-next k (omega arith)) (go (tooSmall fs (holeCorners outer counts k)) (skips-from n (suc k) (omega arith)))
     where
-      go : (b : Bool) → skips (suc k) (list (λ g. tooSmall fs (holeCorners outer counts g)) n (suc k)) ≡ skippedFrom fs (suc k) (ringsFrom (startOf outer counts (suc k)) (drop (suc k) counts))
+      go : (b : Bool) → skips (suc k) (list (λ g. tooSmall fs (holeCorners outer counts g)) n (suc k)) ≡ skippedFrom fs (suc k) (ringsFrom (holeStart outer counts (suc k)) (drop (suc k) counts))
           → cond b (entry 6 k 0 0 ∷ skips (suc k) (list (λ g. tooSmall fs (holeCorners outer counts g)) n (suc k))) (skips (suc k) (list (λ g. tooSmall fs (holeCorners outer counts g)) n (suc k)))
-          ≡ cond b (entry 6 k 0 0 ∷ skippedFrom fs (suc k) (ringsFrom (startOf outer counts (suc k)) (drop (suc k) counts))) (skippedFrom fs (suc k) (ringsFrom (startOf outer counts (suc k)) (drop (suc k) counts)))
+          ≡ cond b (entry 6 k 0 0 ∷ skippedFrom fs (suc k) (ringsFrom (holeStart outer counts (suc k)) (drop (suc k) counts))) (skippedFrom fs (suc k) (ringsFrom (holeStart outer counts (suc k)) (drop (suc k) counts)))
       go true h = ap (λ (l : List Entry). entry 6 k 0 0 ∷ l) h
       go false h = h
 
@@ -141,7 +141,7 @@ module _ (fs : List Flat) (outer : ℕ) (counts : List ℕ) where
       fit g low e =
           let ring = holeCorners outer counts g in
           let many : 3 ≤ length ring = not-short (length ring) _ (sym (small-is g low) ∙ e) in
-          (low, omega (arith, many, length-list (λ i. i) (getD counts g 0) (startOf outer counts g)), omega (arith, fits, count-low outer counts g low))
+          (low, omega (arith, many, length-list (λ i. i) (getD counts g 0) (holeStart outer counts g)), omega (arith, fits, count-low outer counts g low))
 
   -- what the holes of an order add to the ring
   pub order-adds : (order : List ℕ) → map hole order ≡ inOrder fs (holesFrom fs 0 (ringsFrom outer counts)) → sumOf (λ g. getD counts g 0 + 2) order ≤ sumOf (λ n. n + 2) counts

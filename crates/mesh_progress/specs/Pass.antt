@@ -44,16 +44,16 @@ drawnLeaving vs ns is ss accounts ls = drawnInto (now (vs .exit)) (now (ns .exit
 abbrev pub beginning : Progress
 beginning = record { at = 0; objects = 0; vertices = 0; kept = 0; spans = 0; entries = 0 }
 
--- where place n starts in a buffer of len numbers: its end where that is past it
-unfoldable pub startOf : ℕ → ℕ → ℕ
-startOf len n = cond (leb n len) n len
+-- place n in a buffer of len numbers, or its end where n is past it
+unfoldable pub clamped : ℕ → ℕ → ℕ
+clamped len n = cond (leb n len) n len
 
 -- the next object's places in buffers of these lengths, within each
 pub record StartsIn (v n i l : ℕ) (p : Progress) (a : Starts) : Type 0 where
-  pub vertices : (a .vertices ≡ startOf v (3 * p .vertices)) × (a .vertices ≤ v)
-  pub normals : (a .normals ≡ startOf n (3 * p .vertices)) × (a .normals ≤ n)
-  pub indices : (a .indices ≡ startOf i (3 * p .kept)) × (a .indices ≤ i)
-  pub log : (a .log ≡ startOf l (entryWidth * p .entries)) × (a .log ≤ l)
+  pub vertices : (a .vertices ≡ clamped v (3 * p .vertices)) × (a .vertices ≤ v)
+  pub normals : (a .normals ≡ clamped n (3 * p .vertices)) × (a .normals ≤ n)
+  pub indices : (a .indices ≡ clamped i (3 * p .kept)) × (a .indices ≤ i)
+  pub log : (a .log ≡ clamped l (entryWidth * p .entries)) × (a .log ≤ l)
 
 -- ---- one object, by what drawing it came to
 

@@ -4,7 +4,7 @@ ghost use Prim.Native.Nat.{_*_, _≤_};
 ghost use Rattle.lid.specs.Log.{entryWidth};
 ghost use Rattle.mesh.specs.PerBuffer.{FitCounts};
 ghost use Rattle.mesh_answer.specs.Answers.{countsFrom};
-ghost use Rattle.mesh_progress.specs.Pass.{startOf, StartsIn, spansMore, cameTo, advanced, CanAdvance};
+ghost use Rattle.mesh_progress.specs.Pass.{clamped, StartsIn, spansMore, cameTo, advanced, CanAdvance};
 ghost use Rattle.mesh_progress.specs.Wrote.{countedBy};
 use lid::ENTRY_WIDTH;
 use mesh_answer::Counted;
@@ -39,7 +39,7 @@ pub struct Starts {
 }
 
 fn clamp(len: usize, at: usize) -> usize
-    ensures { λ r. ⌜ (r ≡ startOf len at) × (r ≤ len) ⌝ }
+    ensures { λ r. ⌜ (r ≡ clamped len at) × (r ≤ len) ⌝ }
 {
     if at <= len {
         return at;
@@ -49,14 +49,14 @@ fn clamp(len: usize, at: usize) -> usize
 
 // Where vertex or triangle n starts.
 fn triple_start(len: usize, n: u32) -> usize
-    ensures { λ r. ⌜ (r ≡ startOf len (3 * n)) × (r ≤ len) ⌝ }
+    ensures { λ r. ⌜ (r ≡ clamped len (3 * n)) × (r ≤ len) ⌝ }
 {
     clamp(len, 3 * (n as usize))
 }
 
 // Where entry n of the log starts.
 fn entry_start(len: usize, n: u32) -> usize
-    ensures { λ r. ⌜ (r ≡ startOf len (entryWidth * n)) × (r ≤ len) ⌝ }
+    ensures { λ r. ⌜ (r ≡ clamped len (entryWidth * n)) × (r ≤ len) ⌝ }
 {
     clamp(len, ENTRY_WIDTH * (n as usize))
 }

@@ -31,7 +31,7 @@ use Rattle.shape.specs.declared.Drawn.{Drawn}
 use Rattle.shape.specs.Drawn.{CanDraw, DrewObject}
 use Rattle.shape.specs.Price.{offered, outlinePrice}
 use Rattle.shape_outline_corners.specs.declared.OutlineAt.{OutlineAt}
-use Rattle.shape_outline_corners.specs.Outlines.{cornersOf, outlineShape, lidAt, Placed, OutlineHolds}
+use Rattle.shape_outline_corners.specs.Outlines.{cornersPlace, outlineShape, lidAt, Placed, OutlineHolds}
 use Rattle.shape_outline_lid_faces.specs.declared.Capped.{Capped}
 use Rattle.shape_outline_lid_faces.specs.Caps.{DrewCap}
 use Rattle.shape_outline.specs.Measures.{outlineIn, wallsIn}
@@ -67,16 +67,16 @@ closedDrawn t r = record { first = 1; after = t ∷ r .lid ∷ r .floor ∷ r .f
 
 module _ (s : List ℕ) (i outer holes : ℕ) where
   abbrev pub outerCorners : List Corner
-  outerCorners = cornersAt s outer (cornersOf i holes)
+  outerCorners = cornersAt s outer (cornersPlace i holes)
 
   abbrev pub holesOf : List (List Corner)
-  holesOf = holesAt s (countsAt s holes (i + 4)) (cornersOf i holes + 24 * outer)
+  holesOf = holesAt s (countsAt s holes (i + 4)) (cornersPlace i holes + 24 * outer)
 
   abbrev pub wallsOf : Bool → Vector → List Face
   wallsOf closed lid = outerWalls closed outerCorners lid ++ join (holeWalls lid) holesOf
 
   corners-all : cornerCount s i outer holes ≡ length outerCorners + sumOf length holesOf
-  corners-all = omega (arith, corners-length s outer (cornersOf i holes), sum-lengths holesOf, ap total (holes-size s (countsAt s holes (i + 4)) (cornersOf i holes + 24 * outer)))
+  corners-all = omega (arith, corners-length s outer (cornersPlace i holes), sum-lengths holesOf, ap total (holes-size s (countsAt s holes (i + 4)) (cornersPlace i holes + 24 * outer)))
 
   -- the lid and the floor can be counted behind the walls
   lid-countable : {limit : Float} {before : ℕ} {vs ns : List Float} {is : List ℕ} {d : Drawing} (closed : Bool) (lid : Vector) {n : ℕ} → 3 * before < 2 ^ 32 → Placed s i outer holes n
@@ -85,12 +85,12 @@ module _ (s : List ℕ) (i outer holes : ℕ) where
       let start : Countable before (tally 0 0 0) 3072 2248 = record { vertices = omega arith; kept = omega arith; thin = omega arith } in
       let walls = outerWalls closed outerCorners lid in
       let inner = join (holeWalls lid) holesOf in
-      let e = corners-count s outer (cornersOf i holes) (countsAt s holes (i + 4)) (cornersOf i holes + 24 * outer) in
+      let e = corners-count s outer (cornersPlace i holes) (countsAt s holes (i + 4)) (cornersPlace i holes + 24 * outer) in
       drew-countable limit start p
       (omega (arith, sum-append (λ f. length (f .points)) walls inner, outer-points closed outerCorners lid, holes-points lid holesOf, e, placed .counted .total, placed .counted .most))
       (omega (arith, sum-append count walls inner, outer-count closed outerCorners lid, holes-count lid holesOf, sum-lengths holesOf, e, placed .counted .total, placed .counted .most))
 
-  closed-offered : (high : Bool) (t : ℕ) → high ≡ hasHeight (cornersAt s (cornerCount s i outer holes) (cornersOf i holes)) → t ≡ length (lidAt s i outer holes .triangles)
+  closed-offered : (high : Bool) (t : ℕ) → high ≡ hasHeight (cornersAt s (cornerCount s i outer holes) (cornersPlace i holes)) → t ≡ length (lidAt s i outer holes .triangles)
       → 2 * (cornerCount s i outer holes) + t + cond high t 0 ≡ offered (outlineShape s i true outer holes)
   unfolding offered outlinePrice
   closed-offered high t h e =
@@ -110,7 +110,7 @@ module _ (s : List ℕ) (i outer holes : ℕ) where
     open-object false c l e drew priced = record {
       first = refl;
       drew = rw l at (stages-walls limit drew);
-      offered = omega (arith, priced, e, corners-length s outer (cornersOf i holes), corners-all);
+      offered = omega (arith, priced, e, corners-length s outer (cornersPlace i holes), corners-all);
       entries = refl;
       log = refl;
     }
@@ -125,7 +125,7 @@ module _ (s : List ℕ) (i outer holes : ℕ) where
     closed-object true {ls} {d} {r} {vs′} {ns′} {is′} {ls′} c e sides capped =
         let cap = subst (λ (m : ℕ). DrewCap limit s (outlineIn s i true outer holes m) before d (drawing (r .floor) vs′ ns′ is′) ls ls′ r) e capped in
         let lid = lidNormal outerCorners in
-        let told = cornersAt s (cornerCount s i outer holes) (cornersOf i holes) in
+        let told = cornersAt s (cornerCount s i outer holes) (cornersPlace i holes) in
         let ts = lidAt s i outer holes .triangles in
         record {
           first = refl;
@@ -140,12 +140,12 @@ module _ (s : List ℕ) (i outer holes : ℕ) where
 
 -- ---- the outline that the code has worked out
 
-pub made : (s : List ℕ) (i : ℕ) (closed : Bool) (outer holes n : ℕ) (lid : Vector) (high : Bool) → lid ≡ lidNormal (cornersAt s outer (cornersOf i holes))
-    → high ≡ cond closed (hasHeight (cornersAt s n (cornersOf i holes))) false
-    → _≡_ {A = OutlineAt} (record { i = i; at = cornersOf i holes; outer = outer; holes = holes; n = n; lid = lid; high = high }) (outlineIn s i closed outer holes n)
+pub made : (s : List ℕ) (i : ℕ) (closed : Bool) (outer holes n : ℕ) (lid : Vector) (high : Bool) → lid ≡ lidNormal (cornersAt s outer (cornersPlace i holes))
+    → high ≡ cond closed (hasHeight (cornersAt s n (cornersPlace i holes))) false
+    → _≡_ {A = OutlineAt} (record { i = i; at = cornersPlace i holes; outer = outer; holes = holes; n = n; lid = lid; high = high }) (outlineIn s i closed outer holes n)
 made s i closed outer holes n lid high l h = λ z. record {
   i = i;
-  at = cornersOf i holes;
+  at = cornersPlace i holes;
   outer = outer;
   holes = holes;
   n = n;
@@ -160,7 +160,7 @@ module _ (s : List ℕ) (i : ℕ) (closed : Bool) (outer holes n : ℕ) {o : Out
   pub high-in : closed ≡ true → o .high ≡ hasHeight (cornersAt s (o .n) (o .at))
   high-in c =
       subst (λ (o : OutlineAt). o .high ≡ hasHeight (cornersAt s (o .n) (o .at))) (sym e)
-      (ap (λ (b : Bool). cond b (hasHeight (cornersAt s n (cornersOf i holes))) false) c)
+      (ap (λ (b : Bool). cond b (hasHeight (cornersAt s n (cornersPlace i holes))) false) c)
 
   pub countable-in : {limit : Float} {before : ℕ} {vs ns : List Float} {is : List ℕ} {d : Drawing} → 3 * before < 2 ^ 32
       → Drew limit (wallsIn s closed o) before (drawing (tally 0 0 0) vs ns is) d → Countable before (d .tally) 1024 1224

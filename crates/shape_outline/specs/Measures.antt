@@ -8,18 +8,18 @@ use Rattle.face.specs.Faces.{Face}
 use Rattle.lid_plane.specs.Plane.{lidNormal}
 use Rattle.shape.specs.Shapes.{outerWalls, holeWalls, hasHeight}
 use Rattle.shape_outline_corners.specs.declared.OutlineAt.{OutlineAt}
-use Rattle.shape_outline_corners.specs.Outlines.{cornersOf}
+use Rattle.shape_outline_corners.specs.Outlines.{cornersPlace}
 
 -- the outline whose counts are at i, n corners in all; only a closed one is asked for its height
 abbrev pub outlineIn : List ℕ → ℕ → Bool → ℕ → ℕ → ℕ → OutlineAt
 outlineIn s i closed outer holes n = record {
   i = i;
-  at = cornersOf i holes;
+  at = cornersPlace i holes;
   outer = outer;
   holes = holes;
   n = n;
-  lid = lidNormal (cornersAt s outer (cornersOf i holes));
-  high = cond closed (hasHeight (cornersAt s n (cornersOf i holes))) false;
+  lid = lidNormal (cornersAt s outer (cornersPlace i holes));
+  high = cond closed (hasHeight (cornersAt s n (cornersPlace i holes))) false;
 }
 
 -- the walls of an outline so worked out: the outer ones, then the holes'

@@ -22,9 +22,9 @@ use shape_outline_normal::about;
 use shape_outline_normal::lid_normal;
 use shape_outline_walls::walls;
 
-// What the walls of n outer corners at `at` are square to: the lid's normal, so that they face out, or
-// nothing where the outline is open.
-fn square_to(s: &[u8], at: usize, n: usize, closed: bool, lid: Vector) -> Vector
+// The normal that `walls` takes for the n outer corners at `at`: the lid's or its reverse, so that the
+// walls face out, or zero where the outline is open.
+fn outer_normal(s: &[u8], at: usize, n: usize, closed: bool, lid: Vector) -> Vector
     requires { ⌜ CornersIn (now s) at n ⌝ }
     ensures { λ r. ⌜ r ≡ cond closed (about (cornersAt (now (s .entry)) n at) lid) zeroV ⌝ }
 {
@@ -66,7 +66,7 @@ fn all_walls(
     ensures { λ r. ⌜ Draws limit (wallsIn (now (s .entry)) closed o) before (tally 0 0 0) r vs ns is ⌝ }
 {
     let n = o.outer as usize;
-    let normal = square_to(s, o.at, n, closed, o.lid);
+    let normal = outer_normal(s, o.at, n, closed, o.lid);
     let e = edges(n, closed);
     let first = o.at + 24 * n;
     let t = walls(s, o.at, n, normal, e, limit, before, NOTHING, vs, ns, is);

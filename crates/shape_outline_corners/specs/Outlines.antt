@@ -41,25 +41,26 @@ wallBetween a b normal = quad 1 (a .base) (b .base) (b .top) (a .top) (cross (di
 
 -- In what follows the counts of an outline are at place i, behind its record's kind and id: its corners are behind the counts of its holes.
 
-abbrev pub cornersOf : ℕ → ℕ → ℕ
-cornersOf i holes = i + 4 + 2 * holes
+-- where its corners start
+abbrev pub cornersPlace : ℕ → ℕ → ℕ
+cornersPlace i holes = i + 4 + 2 * holes
 
 -- the outline, and the lid that is cut over its corners
 abbrev pub outlineShape : List ℕ → ℕ → Bool → ℕ → ℕ → Shape
-outlineShape s i closed outer holes = outline closed (cornersAt s outer (cornersOf i holes)) (holesAt s (countsAt s holes (i + 4)) (cornersOf i holes + 24 * outer))
+outlineShape s i closed outer holes = outline closed (cornersAt s outer (cornersPlace i holes)) (holesAt s (countsAt s holes (i + 4)) (cornersPlace i holes + 24 * outer))
 
 abbrev pub lidAt : List ℕ → ℕ → ℕ → ℕ → Lid
-lidAt s i outer holes = outlineLid (cornersAt s outer (cornersOf i holes)) (holesAt s (countsAt s holes (i + 4)) (cornersOf i holes + 24 * outer))
+lidAt s i outer holes = outlineLid (cornersAt s outer (cornersPlace i holes)) (holesAt s (countsAt s holes (i + 4)) (cornersPlace i holes + 24 * outer))
 
 -- its n corners are counted, within the limits of document 01, section 1, and lie in the bytes
 pub record Placed (s : List ℕ) (i outer holes n : ℕ) : Type 0 where
   pub counted : CornersCounted s i outer holes n
-  pub inside : CornersIn s (cornersOf i holes) n
+  pub inside : CornersIn s (cornersPlace i holes) n
 
 -- what the code has worked out of it
 pub record OutlineHolds (s : List ℕ) (o : OutlineAt) : Type 0 where
   pub placed : Placed s (o .i) (o .outer) (o .holes) (o .n)
-  pub place : o .at ≡ cornersOf (o .i) (o .holes)
+  pub place : o .at ≡ cornersPlace (o .i) (o .holes)
   pub normal : o .lid ≡ lidNormal (cornersAt s (o .outer) (o .at))
 
 -- all corners of the outline that the code has worked out, and its lid

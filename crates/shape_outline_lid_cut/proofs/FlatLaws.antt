@@ -25,7 +25,7 @@ use Rattle.lid.specs.Written.{WritesLid}
 use Rattle.lid_plane.specs.Steps.{flatOn}
 use Rattle.shape.specs.Shapes.{allCorners, flatOf, outlineLid}
 use Rattle.shape_outline_corners.specs.declared.OutlineAt.{OutlineAt}
-use Rattle.shape_outline_corners.specs.Outlines.{pointsAt, cornersOf, lidAt, OutlineHolds}
+use Rattle.shape_outline_corners.specs.Outlines.{pointsAt, cornersPlace, lidAt, OutlineHolds}
 use Rattle.shape_outline_corners.proofs.CornerLaws.{map-list, tops-points}
 
 -- ---- corners laid flat
@@ -77,15 +77,15 @@ laid-flat s n at lid e1 e2 us vs q r a b =
 -- ---- the lid
 
 -- all corners of an outline
-pub all-corners : (s : List ℕ) (i outer holes : ℕ) → allCorners (cornersAt s outer (cornersOf i holes)) (holesAt s (countsAt s holes (i + 4)) (cornersOf i holes + 24 * outer)) ≡ cornersAt s (cornerCount s i outer holes) (cornersOf i holes)
+pub all-corners : (s : List ℕ) (i outer holes : ℕ) → allCorners (cornersAt s outer (cornersPlace i holes)) (holesAt s (countsAt s holes (i + 4)) (cornersPlace i holes + 24 * outer)) ≡ cornersAt s (cornerCount s i outer holes) (cornersPlace i holes)
 unfolding allCorners
-all-corners s i outer holes = outline-corners s outer (countsAt s holes (i + 4)) (cornersOf i holes)
+all-corners s i outer holes = outline-corners s outer (countsAt s holes (i + 4)) (cornersPlace i holes)
 
 pub lid-at : (s : List ℕ) (i outer holes : ℕ)
-    → lidOf (flatten (lidNormal (cornersAt s outer (cornersOf i holes))) (pointsAt s (cornerCount s i outer holes) (cornersOf i holes + 12))) outer (countsAt s holes (i + 4)) ≡ lidAt s i outer holes
+    → lidOf (flatten (lidNormal (cornersAt s outer (cornersPlace i holes))) (pointsAt s (cornerCount s i outer holes) (cornersPlace i holes + 12))) outer (countsAt s holes (i + 4)) ≡ lidAt s i outer holes
 unfolding outlineLid flatOf
 lid-at s i outer holes =
-    let at = cornersOf i holes in
+    let at = cornersPlace i holes in
     let counts = countsAt s holes (i + 4) in
     let lid = lidNormal (cornersAt s outer at) in
     let n = cornerCount s i outer holes in

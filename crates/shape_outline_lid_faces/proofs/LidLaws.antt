@@ -30,7 +30,7 @@ use Rattle.lid.specs.Written.{triangleRecord, triangleNumbers}
 use Rattle.lid.proofs.Facts.{lid-triangles, lid-corners}
 use Rattle.shape.specs.Shapes.{flatOf, outlineLid}
 use Rattle.shape_outline_corners.specs.declared.OutlineAt.{OutlineAt}
-use Rattle.shape_outline_corners.specs.Outlines.{faceAt, pointsAt, cornersOf, lidAt, Placed, OutlineHolds}
+use Rattle.shape_outline_corners.specs.Outlines.{faceAt, pointsAt, cornersPlace, lidAt, Placed, OutlineHolds}
 use Rattle.shape_outline_corners.proofs.CornerLaws.{points-length}
 use Rattle.shape_outline_lid_cut.proofs.FillLaws.{fill-front}
 use Rattle.shape.proofs.Sizes.{outline-entries, price-lid}
@@ -93,10 +93,10 @@ face-countable {limit} n k countable p h g = drew-countable limit countable p (o
 
 module _ (s : List ℕ) (i outer holes n : ℕ) (p : Placed s i outer holes n) where
   abbrev cs : List Corner
-  cs = cornersAt s outer (cornersOf i holes)
+  cs = cornersAt s outer (cornersPlace i holes)
 
   abbrev hs : List (List Corner)
-  hs = holesAt s (countsAt s holes (i + 4)) (cornersOf i holes + 24 * outer)
+  hs = holesAt s (countsAt s holes (i + 4)) (cornersPlace i holes + 24 * outer)
 
   -- at most one for each entry of the log, and one more
   pub most-triangles : length (lidAt s i outer holes .triangles) ≤ n + 3 * holes + 2
@@ -104,8 +104,8 @@ module _ (s : List ℕ) (i outer holes n : ℕ) (p : Placed s i outer holes n) w
       let a : length (outlineLid cs hs .triangles) ≡ lidPrice (flatOf cs hs) (outlineLid cs hs .log) = unfold outlineLid in lid-triangles (flatOf cs hs) (length cs) (map length hs) in
       let e = price-lid cs hs in
       let b = outline-entries cs hs in
-      let h = holes-length s (countsAt s holes (i + 4)) (cornersOf i holes + 24 * outer) ∙ counts-length s holes (i + 4) in
-      let c = corners-count s outer (cornersOf i holes) (countsAt s holes (i + 4)) (cornersOf i holes + 24 * outer) in
+      let h = holes-length s (countsAt s holes (i + 4)) (cornersPlace i holes + 24 * outer) ∙ counts-length s holes (i + 4) in
+      let c = corners-count s outer (cornersPlace i holes) (countsAt s holes (i + 4)) (cornersPlace i holes + 24 * outer) in
       omega (arith, a, e, b, h, c, p .counted .total)
 
   pub few-triangles : length (lidAt s i outer holes .triangles) ≤ 612
@@ -114,7 +114,7 @@ module _ (s : List ℕ) (i outer holes n : ℕ) (p : Placed s i outer holes n) w
   pub low-triangles : Each (TriangleLow n) (lidAt s i outer holes .triangles)
   low-triangles =
       subst (λ (n : ℕ). Each (TriangleLow n) (lidAt s i outer holes .triangles))
-      (corners-count s outer (cornersOf i holes) (countsAt s holes (i + 4)) (cornersOf i holes + 24 * outer) ∙ sym (p .counted .total))
+      (corners-count s outer (cornersPlace i holes) (countsAt s holes (i + 4)) (cornersPlace i holes + 24 * outer) ∙ sym (p .counted .total))
       (unfold outlineLid in lid-corners (flatOf cs hs) (length cs) (map length hs))
 
 -- what `lid_faces` asks of the lid's triangles, where they are written at the start of a buffer with room for them

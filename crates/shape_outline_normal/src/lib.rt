@@ -38,7 +38,7 @@ pub fn lid_normal(s: &[u8], at: usize, n: usize) -> Vector
     ensures { λ r. ⌜ r ≡ lidNormal (cornersAt (now (s .entry)) n at) ⌝ }
 {
     if n == 0 {
-        return lid_plane_normal::lid_normal(Vector::ZERO, Vector::ZERO);
+        return lid_plane_normal::lid_normal_from(Vector::ZERO, Vector::ZERO);
     }
     let mut a = corner_at(s, at);
     let first = a.top;
@@ -52,7 +52,7 @@ pub fn lid_normal(s: &[u8], at: usize, n: usize) -> Vector
         a = b;
         k += 1;
     }
-    lid_plane_normal::lid_normal(area, rise)
+    lid_plane_normal::lid_normal_from(area, rise)
 }
 
 // The lid's normal or its reverse, whichever the bases of n corners at `at` run anticlockwise about.
@@ -60,5 +60,5 @@ pub fn about(s: &[u8], at: usize, n: usize, lid: Vector) -> Vector
     requires { ⌜ CornersIn (now s) at n ⌝ }
     ensures { λ r. ⌜ r ≡ about (cornersAt (now (s .entry)) n at) lid ⌝ }
 {
-    lid_plane_axes::about(area_normal(s, at, n), lid)
+    lid_plane_axes::about_from(area_normal(s, at, n), lid)
 }

@@ -17,7 +17,7 @@ use coords::Point;
 use face::Tally;
 use scene_field_point::section_at;
 use shape::StageTallies;
-use shape_section_ends::places_of;
+use shape_section_ends::end_places;
 
 fn centre_at(s: &[u8], i: usize) -> Point
     requires { ⌜ i + 48 ≤ length (now s) ⌝ }
@@ -59,7 +59,7 @@ pub fn round_sweep(
         ca = cb;
         k = k + 1;
     }
-    let p = places_of(at, n);
+    let p = end_places(at, n);
     let start_out = centre_at(s, at).sub(centre_at(s, p.second));
     let end_out = ca.sub(centre_at(s, p.previous));
     let w = shape_ring_face::end(first, start_out, limit, before, u, vs, ns, is);

@@ -2,15 +2,15 @@
 ghost use Prim.Native.Nat.{_+_, _*_, _<_, _^_};
 ghost use Rattle.shape_section_ends.specs.Places.{EndPlaces};
 
-// The places of a sweep's last section and of those beside its first and its last one. One section
-// alone stands beside itself.
+// The places of a sweep's last section and of those beside its first and its last one: between these
+// `end_directions` of object_mesh.rs takes its directions. One section alone stands beside itself.
 pub struct Places {
     pub second: usize,
     pub last: usize,
     pub previous: usize,
 }
 
-pub fn places_of(at: usize, n: usize) -> Places
+pub fn end_places(at: usize, n: usize) -> Places
     requires { ⌜ (0 < n) × (at + 48 * n < 2 ^ 64) ⌝ }
     ensures { λ r. ⌜ EndPlaces at n (r .second) (r .last) (r .previous) ⌝ }
 {

@@ -21,7 +21,7 @@ use scene_field_point::section_at;
 use shape::StageTallies;
 use shape_section::is_flat;
 use shape_section::is_thin;
-use shape_section_ends::places_of;
+use shape_section_ends::end_places;
 
 // To the left of the way from a to b.
 fn side_direction(a: Point, b: Point) -> Vector
@@ -138,7 +138,7 @@ pub fn sweep(
         a = b;
         k = k + 1;
     }
-    let p = places_of(at, n);
+    let p = end_places(at, n);
     let first = section_at(s, at);
     let w = quad(
         first.left.base,

@@ -35,8 +35,8 @@ trianglesFrom limit vs t (a ∷ b ∷ c ∷ rest) =
     (cond (degenerate limit vs a b c) (DegenerateTriangle t) later)))
 
 -- the verdict on triangle t, of the vertices numbered a, b and c
-unfoldable pub triangleAt : Float → List Point → ℕ → ℕ → ℕ → ℕ → Verdict
-triangleAt limit vs t a b c =
+unfoldable pub verdictOnTriangle : Float → List Point → ℕ → ℕ → ℕ → ℕ → Verdict
+verdictOnTriangle limit vs t a b c =
     let n = length vs in
     cond (leb n a) (IndexOutOfRange t a n)
     (cond (leb n b) (IndexOutOfRange t b n)

@@ -14,7 +14,7 @@ use Rattle.coords.specs.declared.Point.{Point}
 use Rattle.coords.specs.Coords.{noArea, origin}
 use Rattle.validate.specs.declared.Verdict.{Verdict}
 use Rattle.validate.specs.declared.Verdict.the-variants.{Ok, IndexOutOfRange, DegenerateTriangle}
-use Rattle.validate.specs.Validate.{degenerate, triangleAt, trianglesFrom, orLater}
+use Rattle.validate.specs.Validate.{degenerate, verdictOnTriangle, trianglesFrom, orLater}
 
 -- a triangle of one index, of two and of three, by its tests
 one : (t n a : ℕ) (later : Verdict) (p : Bool) → cond p (IndexOutOfRange t a n) (DegenerateTriangle t) ≡ orLater (cond p (IndexOutOfRange t a n) (cond p (IndexOutOfRange t a n) (cond p (IndexOutOfRange t a n) (DegenerateTriangle t)))) later
@@ -46,14 +46,14 @@ module _ (limit : Float) (vs : List Point) where
       second false y z = refl
 
   -- an index that is missing counts as the one before it
-  step : (t a : ℕ) (l : List ℕ) → trianglesFrom limit vs t (a ∷ l) ≡ orLater (triangleAt limit vs t a (getD l 0 a) (getD l 1 (getD l 0 a))) (trianglesFrom limit vs (suc t) (drop 2 l))
-  unfolding trianglesFrom triangleAt
+  step : (t a : ℕ) (l : List ℕ) → trianglesFrom limit vs t (a ∷ l) ≡ orLater (verdictOnTriangle limit vs t a (getD l 0 a) (getD l 1 (getD l 0 a))) (trianglesFrom limit vs (suc t) (drop 2 l))
+  unfolding trianglesFrom verdictOnTriangle
   step t a [] = rw (repeated a a) (one t (length vs) a Ok (leb (length vs) a))
   step t a (b ∷ []) = rw (repeated a b) (two t (length vs) a b Ok (leb (length vs) a) (leb (length vs) b))
   step t a (b ∷ c ∷ l) = three t (length vs) a b c (trianglesFrom limit vs (suc t) l) (leb (length vs) a) (leb (length vs) b) (leb (length vs) c) (degenerate limit vs a b c)
 
   module _ (t : ℕ) (is : List ℕ) (i : ℕ) where
-    pub next : {a b c : ℕ} {v : Verdict} → i < length is → a ≡ getD is i 0 → b ≡ getD is (i + 1) a → c ≡ getD is (i + 2) b → v ≡ triangleAt limit vs t a b c → trianglesFrom limit vs t (drop i is) ≡ orLater v (trianglesFrom limit vs (t + 1) (drop (i + 3) is))
+    pub next : {a b c : ℕ} {v : Verdict} → i < length is → a ≡ getD is i 0 → b ≡ getD is (i + 1) a → c ≡ getD is (i + 2) b → v ≡ verdictOnTriangle limit vs t a b c → trianglesFrom limit vs t (drop i is) ≡ orLater v (trianglesFrom limit vs (t + 1) (drop (i + 3) is))
     next {a} {b} {c} h p q r s =
         let l = drop (suc i) is in
         let e₁ : suc i + 0 ≡ i + 1 = omega arith in

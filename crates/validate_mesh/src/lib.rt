@@ -2,7 +2,7 @@
 ghost use mathlib.Core.Path.{_≡_};
 ghost use lib.ListN.{getD};
 ghost use Rattle.coords.specs.Buffers.{verticesIn};
-ghost use Rattle.validate.specs.Validate.{triangleAt, trianglesFrom, validateAt, validate};
+ghost use Rattle.validate.specs.Validate.{verdictOnTriangle, trianglesFrom, validateAt, validate};
 use float::MIN_AREA;
 use lists::Found;
 use refusal::Refusal;
@@ -13,7 +13,7 @@ use validate_faults::first_not_finite;
 
 // What is wrong with triangle t, of the vertices numbered a, b and c, if anything is.
 fn triangle(limit: f32, vertices: &[f32], t: usize, a: u32, b: u32, c: u32) -> Verdict
-    ensures { λ r. ⌜ r ≡ triangleAt limit (verticesIn (now (vertices .entry))) t a b c ⌝ }
+    ensures { λ r. ⌜ r ≡ verdictOnTriangle limit (verticesIn (now (vertices .entry))) t a b c ⌝ }
 {
     let n = vertices.len() / 3;
     let x = a as usize;

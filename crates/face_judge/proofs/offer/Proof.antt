@@ -1,19 +1,19 @@
 -- `face_judge::offer` meets its contract. Assumes nothing.
 use borrow.Author.Needs.{needs}
-use Rattle.face_judge.specs.Offered.{gathered, cornersOf}
+use Rattle.face_judge.specs.Offered.{gathered, indicesOf}
 use Rattle.face_judge.proofs.offer.Statement.{statement}
 use Rattle.face_judge.proofs.offer.Tie as tie
 
 returns : tie.Need-returns
-unfolding gathered cornersOf
+unfolding gathered indicesOf
 returns c = let e = c .before .enum-told .given .1 in (rw e, rw e)
 
 returns-2 : tie.Need-returns-2
-unfolding gathered cornersOf
+unfolding gathered indicesOf
 returns-2 c = let e = c .before .before .before .before .before .before .before .k .given .1 in (rw (e, c .before .add .ensures), rw (e, c .before .before .before .before .put-numbers .ensures))
 
 returns-3 : tie.Need-returns-3
-unfolding gathered cornersOf
+unfolding gathered indicesOf
 returns-3 c = let e = c .before .before .before .before .before .before .before .k2 .given .1 in (rw (e, c .before .sub .ensures), rw (e, c .before .before .before .before .put-numbers2 .ensures))
 
 pub offer-spec : {M : Type 1} → statement M

@@ -3,13 +3,13 @@ use mathlib.Core.Path.{_≡_, sym}
 use Prim.Native.Nat.{_≤_, _-_}
 use native.Mathlib.Omega.{arith}
 use Rattle.lid_hole.proofs.HoleLaws.{start-first, start-in, start-next}
-use Rattle.lid_hole.specs.Holes.{startOf}
+use Rattle.lid_hole.specs.Holes.{holeStart}
 use Rattle.lid_hole.proofs.hole_start.Statement.{statement}
 use Rattle.lid_hole.proofs.hole_start.Tie as tie
 use denote.Ref.{now}
 
 abbrev Inv-loop : tie.InvT-loop
-Inv-loop outer counts g start₀ k₀ start k = (k ≤ g) × (start ≡ startOf outer counts k)
+Inv-loop outer counts g start₀ k₀ start k = (k ≤ g) × (start ≡ holeStart outer counts k)
 
 abbrev μ-loop : tie.MeasureT-loop
 μ-loop outer counts g start₀ k₀ start k = g - k

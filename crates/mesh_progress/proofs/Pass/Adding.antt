@@ -27,7 +27,7 @@ use Rattle.shape.specs.Stages.{lastOf}
 use Rattle.shape.proofs.Stages.{stages-faces}
 use Rattle.mesh_progress.specs.declared.Progress.{Progress}
 use Rattle.mesh.specs.Mesh.{Span, keptBy, thinBy, accountOf, pieceOf, spanOf, spanNumbers, accountNumbers}
-use Rattle.mesh_progress.specs.Pass.{drawnInto, startOf, spanBy, Came, cameTo, accountBy, spansMore, advanced, CanAdvance, drawnOf, DrewBehind, passOf, withObject, Fits, CanAdd, AddedObject}
+use Rattle.mesh_progress.specs.Pass.{drawnInto, clamped, spanBy, Came, cameTo, accountBy, spansMore, advanced, CanAdvance, drawnOf, DrewBehind, passOf, withObject, Fits, CanAdd, AddedObject}
 use Rattle.mesh.proofs.Demand3.Spans.{piece-size}
 use Rattle.mesh_progress.proofs.Pass.Tails.{tailOf, backOf, lent-back}
 
@@ -57,23 +57,23 @@ module _ {limit : Float} {sh : Shape} {v : ℕ} {vs ns : List Float} {is ls : Li
       same-drawn (ap (λ (x : Drawing). x .tally) drew-all ∙ (λ i. tally (zero-add (length (w .vertices)) i) (zero-add (sumOf (λ f. length (keptOf limit f)) faces) i) (zero-add (sumOf (thinIn limit) faces) i))) (r .offered) (r .entries)
 
 module _ (limit : Float) (sh : Shape) (p : Progress) (vs ns : List Float) (is ls : List ℕ) {d : Drawn} {vs′ ns′ : List Float} {is′ ls′ : List ℕ} where
-  drew-at-starts : DrewObject limit sh (p .vertices) (tailOf vs (startOf (length vs) (3 * p .vertices))) (tailOf ns (startOf (length ns) (3 * p .vertices)))
-      (tailOf is (startOf (length is) (3 * p .kept))) (tailOf ls (startOf (length ls) (4 * p .entries))) d vs′ ns′ is′ ls′
-      → DrewBehind limit sh p (cameTo d) vs ns is ls (backOf vs (startOf (length vs) (3 * p .vertices)) vs′) (backOf ns (startOf (length ns) (3 * p .vertices)) ns′)
-      (backOf is (startOf (length is) (3 * p .kept)) is′) (backOf ls (startOf (length ls) (4 * p .entries)) ls′)
+  drew-at-starts : DrewObject limit sh (p .vertices) (tailOf vs (clamped (length vs) (3 * p .vertices))) (tailOf ns (clamped (length ns) (3 * p .vertices)))
+      (tailOf is (clamped (length is) (3 * p .kept))) (tailOf ls (clamped (length ls) (4 * p .entries))) d vs′ ns′ is′ ls′
+      → DrewBehind limit sh p (cameTo d) vs ns is ls (backOf vs (clamped (length vs) (3 * p .vertices)) vs′) (backOf ns (clamped (length ns) (3 * p .vertices)) ns′)
+      (backOf is (clamped (length is) (3 * p .kept)) is′) (backOf ls (clamped (length ls) (4 * p .entries)) ls′)
   drew-at-starts r =
       let w = writeFaces limit (p .vertices) (facesOf sh) in
       record {
         drawn = drawn-is r;
-        vertices = ap (λ (x : Drawing). backOf vs (startOf (length vs) (3 * p .vertices)) (x .vertices)) (drew-all r) ∙ lent-back vs (3 * p .vertices) (vertexNumbers (w .vertices));
-        normals = ap (λ (x : Drawing). backOf ns (startOf (length ns) (3 * p .vertices)) (x .normals)) (drew-all r) ∙ lent-back ns (3 * p .vertices) (normalNumbers (w .normals));
-        indices = ap (λ (x : Drawing). backOf is (startOf (length is) (3 * p .kept)) (x .indices)) (drew-all r) ∙ lent-back is (3 * p .kept) (w .indices);
-        log = ap (λ (x : List ℕ). backOf ls (startOf (length ls) (4 * p .entries)) x) (r .log) ∙ lent-back ls (4 * p .entries) (logNumbers (logOf sh));
+        vertices = ap (λ (x : Drawing). backOf vs (clamped (length vs) (3 * p .vertices)) (x .vertices)) (drew-all r) ∙ lent-back vs (3 * p .vertices) (vertexNumbers (w .vertices));
+        normals = ap (λ (x : Drawing). backOf ns (clamped (length ns) (3 * p .vertices)) (x .normals)) (drew-all r) ∙ lent-back ns (3 * p .vertices) (normalNumbers (w .normals));
+        indices = ap (λ (x : Drawing). backOf is (clamped (length is) (3 * p .kept)) (x .indices)) (drew-all r) ∙ lent-back is (3 * p .kept) (w .indices);
+        log = ap (λ (x : List ℕ). backOf ls (clamped (length ls) (4 * p .entries)) x) (r .log) ∙ lent-back ls (4 * p .entries) (logNumbers (logOf sh));
       }
 
   -- what a builder that was lent the tails has drawn stands behind what the buffers hold
-  pub drew-behind : {a b k e : ℕ} → a ≡ startOf (length vs) (3 * p .vertices) → b ≡ startOf (length ns) (3 * p .vertices) → k ≡ startOf (length is) (3 * p .kept)
-      → e ≡ startOf (length ls) (4 * p .entries) → DrewObject limit sh (p .vertices) (tailOf vs a) (tailOf ns b) (tailOf is k) (tailOf ls e) d vs′ ns′ is′ ls′
+  pub drew-behind : {a b k e : ℕ} → a ≡ clamped (length vs) (3 * p .vertices) → b ≡ clamped (length ns) (3 * p .vertices) → k ≡ clamped (length is) (3 * p .kept)
+      → e ≡ clamped (length ls) (4 * p .entries) → DrewObject limit sh (p .vertices) (tailOf vs a) (tailOf ns b) (tailOf is k) (tailOf ls e) d vs′ ns′ is′ ls′
       → DrewBehind limit sh p (cameTo d) vs ns is ls (backOf vs a vs′) (backOf ns b ns′) (backOf is k is′) (backOf ls e ls′)
   drew-behind p₁ p₂ p₃ p₄ r = rw (p₁, p₂, p₃, p₄) (drew-at-starts (rw (p₁, p₂, p₃, p₄) at r))
 

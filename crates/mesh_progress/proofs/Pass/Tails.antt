@@ -12,7 +12,7 @@ use lib.Seq.{sets, set-out, sets-eq, take-all, length-take-le}
 use borrow.Author.Tests.{leb-true, leb-false}
 use Rattle.lists.specs.Loops.{over}
 use Rattle.lists.proofs.Stores.{sets-append}
-use Rattle.mesh_progress.specs.Pass.{startOf}
+use Rattle.mesh_progress.specs.Pass.{clamped}
 
 module _ {A : Type 0} where
   sets-cons : (x : A) (l : List A) (i : ℕ) (w : List A) → sets (x ∷ l) (suc i) w ≡ x ∷ sets l i w
@@ -47,8 +47,8 @@ module _ {A : Type 0} where
       tail-back xs (length xs) w (le-refl _) ∙ sets-out xs (length xs) w (le-refl _) ∙ sym (sets-out xs n w (le-of-lt (leb-false _ _ e)))
 
   -- a run stored at the start of the lent tail is the run stored at its place, left out past the end
-  pub lent-back : (xs : List A) (n : ℕ) (w : List A) → backOf xs (startOf (length xs) n) (sets (tailOf xs (startOf (length xs) n)) 0 w) ≡ sets xs n w
-  unfolding startOf
+  pub lent-back : (xs : List A) (n : ℕ) (w : List A) → backOf xs (clamped (length xs) n) (sets (tailOf xs (clamped (length xs) n)) 0 w) ≡ sets xs n w
+  unfolding clamped
   lent-back xs n w = lent-by xs n w (leb n (length xs)) refl
 
   -- a run stored from the start on, with room for it

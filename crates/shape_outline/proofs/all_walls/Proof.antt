@@ -27,14 +27,14 @@ hole-walls-requires c κs =
     let m = z .pre .0 in
     let total = m .placed .counted .total in
     let inner = sumOf (λ k. k) (countsAt s (o .holes) (o .i + 4)) in
-    let drew = outer-drew (a .closed) s (o .outer) (o .at) (o .lid) (c .before .before .before .before .before .before .before .before .before .before .before .before .before .before .before .before .square-to .ensures) (c .before .before .before .before .before .before .before .before .before .before .before .before .before .before .before .edges .ensures) (c .before .before .before .before .before .before .before .before .before .before .walls .ensures) in
+    let drew = outer-drew (a .closed) s (o .outer) (o .at) (o .lid) (c .before .before .before .before .before .before .before .before .before .before .before .before .before .before .before .before .outer-normal .ensures) (c .before .before .before .before .before .before .before .before .before .before .before .before .before .before .before .edges .ensures) (c .before .before .before .before .before .before .before .before .before .before .walls .ensures) in
     ((omega (arith, m .place), omega (arith, m .place, m .placed .inside)), outer-countable s (o .outer) (o .at) (a .closed) (o .lid) (o .n) inner (start-countable (a .before) _ (z .pre .1) (m .placed .counted .most)) drew (omega arith))
 
 returns : tie.Need-returns
 returns c =
     let a = c .before .before .before .before .before .before .before .before .before .before .before .before .before .before .before .before .before .before .before .before .before .before .before .before .before .before .before .before .before .args in
     let o = a .o in
-    then (a .limit) (outer-drew (a .closed) (a .s .now) (o .outer) (o .at) (o .lid) (c .before .before .before .before .before .before .before .before .before .before .before .before .before .before .before .before .before .before .before .before .before .before .before .square-to .ensures) (c .before .before .before .before .before .before .before .before .before .before .before .before .before .before .before .before .before .before .before .before .before .before .edges .ensures) (c .before .before .before .before .before .before .before .before .before .before .before .before .before .before .before .before .before .walls .ensures)) (c .before .before .before .before .before .before .hole-walls .ensures)
+    then (a .limit) (outer-drew (a .closed) (a .s .now) (o .outer) (o .at) (o .lid) (c .before .before .before .before .before .before .before .before .before .before .before .before .before .before .before .before .before .before .before .before .before .before .before .outer-normal .ensures) (c .before .before .before .before .before .before .before .before .before .before .before .before .before .before .before .before .before .before .before .before .before .before .edges .ensures) (c .before .before .before .before .before .before .before .before .before .before .before .before .before .before .before .before .before .walls .ensures)) (c .before .before .before .before .before .before .hole-walls .ensures)
 
 pub all-walls-spec : {M : Type 1} → statement M
 all-walls-spec =

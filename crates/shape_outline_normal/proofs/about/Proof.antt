@@ -14,7 +14,7 @@ use Rattle.shape_outline_normal.proofs.about.Tie as tie
 returns : tie.Need-returns
 returns c =
     let a = c .before .before .before .args in
-    c .about .ensures ∙ ap (λ (v : Vector). aboutFrom v (a .lid)) (c .before .area-normal .ensures ∙ ap areaNormal (sym (bases-points (a .s .now) (a .n) (a .at)))) ∙ about-from (cornersAt (a .s .now) (a .n) (a .at)) (a .lid)
+    c .about-from .ensures ∙ ap (λ (v : Vector). aboutFrom v (a .lid)) (c .before .area-normal .ensures ∙ ap areaNormal (sym (bases-points (a .s .now) (a .n) (a .at)))) ∙ about-from (cornersAt (a .s .now) (a .n) (a .at)) (a .lid)
 
 pub about-spec : {M : Type 1} → statement M
 about-spec = tie.close

@@ -31,7 +31,7 @@ unfolding cornersAt list topsOf areaNormal loop rise fold
 none s at n e = normal-from (cornersAt s 0 at) ∙ sym (ap (λ (m : ℕ). lidNormal (cornersAt s m at)) e)
 
 returns : tie.Need-returns Inv-loop μ-loop
-returns c = let a = c .before .before .before .args in c .lid-normal .ensures ∙ none (a .s .now) (a .at) (a .n) (c .before .if1 .taken)
+returns c = let a = c .before .before .before .args in c .lid-normal-from .ensures ∙ none (a .s .now) (a .at) (a .n) (c .before .if1 .taken)
 
 loop-holds : tie.Need-loop-holds Inv-loop μ-loop
 unfolding rise cornersAt
@@ -60,7 +60,7 @@ returns-2 c =
     let done = c .before .loop-test .left in
     let area = loop-end _ _ _ _ _ done (l .inv .1) ∙ ap areaNormal (sym (tops-points s (a .n) (a .at))) in
     let rises = fold-end riseStep (λ j. cornerAt s (a .at + 24 * j)) (a .n) (l .k) (l .rise) _ done (l .inv .2) in
-    c .lid-normal2 .ensures ∙ ap₂ lidNormalFrom area rises ∙ normal-from (cornersAt s (a .n) (a .at))
+    c .lid-normal-from2 .ensures ∙ ap₂ lidNormalFrom area rises ∙ normal-from (cornersAt s (a .n) (a .at))
 
 pub lid-normal-spec : {M : Type 1} → statement M
 lid-normal-spec =

@@ -45,8 +45,8 @@ add-k c = omega (arith, c .before .before .before .before .before .before .befor
 loop-again : tie.Need-loop-again Inv-loop μ-loop
 loop-again c = let a = c .before .before .before .before .before .before .before .before .before .before .before .before .before .before .before .before .before .before .before .before .before .before .before .args in let l = c .before .before .before .before .before .before .before .before .before .before .before .before .before .before .loop in let p = c .before .before .before .before .before .before .tube .ensures in let g = c .before .before .before .before .before .before .before .before .before .before .before .before .section-at2 .ensures in let y = c .before .before .before .before .before .before .before .before .before .before .before .ellipse2 .ensures ∙ ap (λ (x : Section). ellipse x .ring) g in let z = c .before .before .before .before .before .before .before .before .before .before .centre .ensures ∙ ap (λ (x : Section). ellipse x .centre) g in (c .before .before .before .before .before .before .before .before .before .before .before .before .before .loop-test .taken, y, z, tube-drawn (a .s .now) (a .at) (l .k) (l .inv .3) (ap₂ ringAbout (l .inv .2) (l .inv .1)) (ap₂ ringAbout z y) p, drew-countable (a .limit) (l .inv .4) p (omega (arith, tube-points (ringAbout (l .ca) (l .a)) (ringAbout (c .before .before .before .before .before .before .before .before .before .before .centre .result) (c .before .before .before .before .before .before .before .before .before .before .before .ellipse2 .result)))) (omega (arith, tube-triangles (ringAbout (l .ca) (l .a)) (ringAbout (c .before .before .before .before .before .before .before .before .before .before .centre .result) (c .before .before .before .before .before .before .before .before .before .before .before .ellipse2 .result)))))
 
-places-of-requires : tie.Need-places-of-requires Inv-loop μ-loop
-places-of-requires c κs = (omega arith, omega (arith, c .before .before .before .before .before .before .before .before .before .before .pre .0))
+end-places-requires : tie.Need-end-places-requires Inv-loop μ-loop
+end-places-requires c κs = (omega arith, omega (arith, c .before .before .before .before .before .before .before .before .before .before .pre .0))
 
 end-requires : tie.Need-end-requires Inv-loop μ-loop
 end-requires c κs = countable-less (c .before .before .before .before .before .before .before .before .before .before .loop .inv .4) (omega (arith, c .before .before .before .before .before .before .before .before .before .before .loop .inv .0)) (omega (arith, c .before .before .before .before .before .before .before .before .before .before .loop .inv .0))
@@ -56,15 +56,15 @@ unfolding endFace fan list sumOf
 end-requires-2 c κs = let h : length (c .before .before .before .before .before .before .before .before .before .before .before .before .before .before .before .before .before .before .before .before .before .before .ellipse .result) ≡ 16 = ap length (first-is (c .before .before .before .before .before .before .before .before .before .before .before .before .before .before .before .before .before .before .before .before .before .before)) ∙ ring-size _ in drew-countable (c .before .before .before .before .before .before .before .before .before .before .before .before .before .before .before .before .before .before .before .before .before .before .before .before .before .before .before .before .before .args .limit) (c .before .before .before .before .before .before .before .before .before .before .before .before .before .before .before .before .before .before .before .before .loop .inv .4) (c .before .before .before .before .before .before .before .before .before .end .ensures 4) (omega (arith, c .before .before .before .before .before .before .before .before .before .before .before .before .before .before .before .before .before .before .before .before .loop .inv .0)) (omega (arith, c .before .before .before .before .before .before .before .before .before .before .before .before .before .before .before .before .before .before .before .before .loop .inv .0))
 
 returns-2 : tie.Need-returns-2 Inv-loop μ-loop
-returns-2 c = let a = c .before .before .before .before .before .before .before .before .before .before .before .before .before .before .before .before .before .before .before .before .before .before .before .before .before .before .before .before .before .before .before .before .before .before .before .before .args in let l = c .before .before .before .before .before .before .before .before .before .before .before .before .before .before .before .before .before .before .before .before .before .before .before .before .before .before .before .loop in let h = c .before .before .before .before .before .before .before .before .before .before .before .before .before .before .before .before .before .before .before .before .before .before .before .before .before .before .loop-test .left in let e : l .k + 1 ≡ a .n = omega (arith, l .inv .0) in round-drawn (a .s .now) (a .at) (a .n) (l .k) e (c .before .before .before .before .before .before .before .before .before .before .before .before .before .before .before .before .before .before .before .before .before .before .before .before .before .places-of .ensures) (first-is (c .before .before .before .before .before .before .before .before .before .before .before .before .before .before .before .before .before .before .before .before .before .before .before .before .before .before .before .before .before)) (l .inv .1) (c .before .before .before .before .before .before .before .before .before .before .before .before .before .before .before .before .before .before .before .before .before .before .before .before .centre-at2 .ensures) (c .before .before .before .before .before .before .before .before .before .before .before .before .before .before .before .before .before .before .before .before .before .before .before .centre-at3 .ensures) (l .inv .2) (c .before .before .before .before .before .before .before .before .before .before .before .before .before .before .before .before .before .before .before .before .before .centre-at4 .ensures) (c .before .before .before .before .before .before .before .before .before .before .before .before .before .before .before .before .before .before .before .before .before .before .sub .ensures) (c .before .before .before .before .before .before .before .before .before .before .before .before .before .before .before .before .before .before .before .before .sub2 .ensures) (l .inv .3) (c .before .before .before .before .before .before .before .before .before .before .before .before .before .before .before .before .end .ensures 4) (c .before .before .before .before .before .before .end2 .ensures 4)
+returns-2 c = let a = c .before .before .before .before .before .before .before .before .before .before .before .before .before .before .before .before .before .before .before .before .before .before .before .before .before .before .before .before .before .before .before .before .before .before .before .before .args in let l = c .before .before .before .before .before .before .before .before .before .before .before .before .before .before .before .before .before .before .before .before .before .before .before .before .before .before .before .loop in let h = c .before .before .before .before .before .before .before .before .before .before .before .before .before .before .before .before .before .before .before .before .before .before .before .before .before .before .loop-test .left in let e : l .k + 1 ≡ a .n = omega (arith, l .inv .0) in round-drawn (a .s .now) (a .at) (a .n) (l .k) e (c .before .before .before .before .before .before .before .before .before .before .before .before .before .before .before .before .before .before .before .before .before .before .before .before .before .end-places .ensures) (first-is (c .before .before .before .before .before .before .before .before .before .before .before .before .before .before .before .before .before .before .before .before .before .before .before .before .before .before .before .before .before)) (l .inv .1) (c .before .before .before .before .before .before .before .before .before .before .before .before .before .before .before .before .before .before .before .before .before .before .before .before .centre-at2 .ensures) (c .before .before .before .before .before .before .before .before .before .before .before .before .before .before .before .before .before .before .before .before .before .before .before .centre-at3 .ensures) (l .inv .2) (c .before .before .before .before .before .before .before .before .before .before .before .before .before .before .before .before .before .before .before .before .before .centre-at4 .ensures) (c .before .before .before .before .before .before .before .before .before .before .before .before .before .before .before .before .before .before .before .before .before .before .sub .ensures) (c .before .before .before .before .before .before .before .before .before .before .before .before .before .before .before .before .before .before .before .before .sub2 .ensures) (l .inv .3) (c .before .before .before .before .before .before .before .before .before .before .before .before .before .before .before .before .end .ensures 4) (c .before .before .before .before .before .before .end2 .ensures 4)
 
 pub round-sweep-spec : {M : Type 1} → statement M
 round-sweep-spec =
     tie.close
     (tie.spec Inv-loop μ-loop returns (λ c κs. omega arith) (λ c κs. tt) (λ c κs. omega arith) loop-holds (λ c. omega arith) (λ c. omega arith) (λ c. omega arith) (λ c. omega arith)
-    (λ c κs. omega arith) (λ c κs. tt) (λ c κs. tt) tube-requires add-k (λ c. omega arith) loop-again places-of-requires (λ c κs. omega arith)
-    (λ c κs. second-in _ (c .before .before .before .loop .inv .0) (c .before .places-of .ensures) (c .before .before .before .before .before .before .before .before .before .before .before .before .pre .0)) (λ c κs. tt)
-    (λ c κs. omega (arith, c .before .before .before .places-of .ensures .beside-end, c .before .before .before .before .before .before .before .before .before .before .before .before .before .before .pre .0)) (λ c κs. tt) end-requires end-requires-2
+    (λ c κs. omega arith) (λ c κs. tt) (λ c κs. tt) tube-requires add-k (λ c. omega arith) loop-again end-places-requires (λ c κs. omega arith)
+    (λ c κs. second-in _ (c .before .before .before .loop .inv .0) (c .before .end-places .ensures) (c .before .before .before .before .before .before .before .before .before .before .before .before .pre .0)) (λ c κs. tt)
+    (λ c κs. omega (arith, c .before .before .before .end-places .ensures .beside-end, c .before .before .before .before .before .before .before .before .before .before .before .before .before .before .pre .0)) (λ c κs. tt) end-requires end-requires-2
     (λ c. c .before .before .before .before .before .before .end2 .kept .1 .1 .1 .1 .1 .0 ∙ c .before .before .before .before .before .before .before .before .before .before .before .before .before .before .before .before .end .kept .1 .1 .1 .1 .1 .0 ∙ drew-vertices (c .before .before .before .before .before .before .before .before .before .before .before .before .before .before .before .before .before .before .before .before .before .before .before .before .before .before .before .before .before .before .before .before .before .before .before .before .args .limit) (c .before .before .before .before .before .before .before .before .before .before .before .before .before .before .before .before .before .before .before .before .before .before .before .before .before .before .before .loop .inv .3))
     (λ c. c .before .before .before .before .before .before .end2 .kept .1 .1 .1 .1 .1 .1 .0 ∙ c .before .before .before .before .before .before .before .before .before .before .before .before .before .before .before .before .end .kept .1 .1 .1 .1 .1 .1 .0 ∙ drew-normals (c .before .before .before .before .before .before .before .before .before .before .before .before .before .before .before .before .before .before .before .before .before .before .before .before .before .before .before .before .before .before .before .before .before .before .before .before .args .limit) (c .before .before .before .before .before .before .before .before .before .before .before .before .before .before .before .before .before .before .before .before .before .before .before .before .before .before .before .loop .inv .3))
     (λ c. c .before .before .before .before .before .before .end2 .kept .1 .1 .1 .1 .1 .1 .1 .0 ∙ c .before .before .before .before .before .before .before .before .before .before .before .before .before .before .before .before .end .kept .1 .1 .1 .1 .1 .1 .1 .0 ∙ drew-indices (c .before .before .before .before .before .before .before .before .before .before .before .before .before .before .before .before .before .before .before .before .before .before .before .before .before .before .before .before .before .before .before .before .before .before .before .before .args .limit) (c .before .before .before .before .before .before .before .before .before .before .before .before .before .before .before .before .before .before .before .before .before .before .before .before .before .before .before .loop .inv .3)) returns-2)

@@ -39,8 +39,8 @@ loop-again : tie.Need-loop-again Inv-loop μ-loop
 unfolding sectionsAt
 loop-again c = let a = c .before .before .before .before .before .before .before .before .before .before .before .before .before .before .before .before .before .before .before .args in let l = c .before .before .before .before .before .before .before .before .before .before .before .before .loop in let p = c .before .before .before .before .before .before .pair .ensures in (c .before .before .before .before .before .before .before .before .before .before .before .loop-test .taken, c .before .before .before .before .before .before .before .before .before .before .section-at2 .ensures, pair-drawn pairFaces (λ k. sectionAt (a .s .now) (a .at + 48 * k)) (l .k) (l .inv .2) (l .inv .1) (c .before .before .before .before .before .before .before .before .before .before .section-at2 .ensures) p, drew-countable (a .limit) (l .inv .3) p (omega (arith, pair-points (l .a) (c .before .before .before .before .before .before .before .before .before .before .section-at2 .result))) (omega (arith, pair-triangles (l .a) (c .before .before .before .before .before .before .before .before .before .before .section-at2 .result))))
 
-places-of-requires : tie.Need-places-of-requires Inv-loop μ-loop
-places-of-requires c κs = (omega arith, omega (arith, c .before .before .before .before .before .before .before .before .pre .0))
+end-places-requires : tie.Need-end-places-requires Inv-loop μ-loop
+end-places-requires c κs = (omega arith, omega (arith, c .before .before .before .before .before .before .before .before .pre .0))
 
 quad-requires : tie.Need-quad-requires Inv-loop μ-loop
 quad-requires c κs = countable-less (c .before .before .before .before .before .before .before .before .loop .inv .3) (omega (arith, c .before .before .before .before .before .before .before .before .loop .inv .0)) (omega (arith, c .before .before .before .before .before .before .before .before .loop .inv .0))
@@ -50,15 +50,15 @@ unfolding quad fan list sumOf
 quad-requires-2 c κs = drew-countable (c .before .before .before .before .before .before .before .before .before .before .before .before .before .before .before .before .before .before .before .before .before .before .before .before .before .before .before .args .limit) (c .before .before .before .before .before .before .before .before .before .before .before .before .before .before .before .before .before .before .before .before .loop .inv .3) (c .before .before .before .before .before .before .before .before .before .before .before .quad .ensures 4) (omega (arith, c .before .before .before .before .before .before .before .before .before .before .before .before .before .before .before .before .before .before .before .before .loop .inv .0)) (omega (arith, c .before .before .before .before .before .before .before .before .before .before .before .before .before .before .before .before .before .before .before .before .loop .inv .0))
 
 returns-2 : tie.Need-returns-2 Inv-loop μ-loop
-returns-2 c = let a = c .before .before .before .before .before .before .before .before .before .before .before .before .before .before .before .before .before .before .before .before .before .before .before .before .before .before .before .before .before .before .before .before .before .before .args in let l = c .before .before .before .before .before .before .before .before .before .before .before .before .before .before .before .before .before .before .before .before .before .before .before .before .before .before .before .loop in let h = c .before .before .before .before .before .before .before .before .before .before .before .before .before .before .before .before .before .before .before .before .before .before .before .before .before .before .loop-test .left in let e : l .k + 1 ≡ a .n = omega (arith, h, l .inv .0) in sweep-drawn (a .s .now) (a .at) (a .n) (l .k) e (c .before .before .before .before .before .before .before .before .before .before .before .before .before .before .before .before .before .before .before .before .before .before .before .before .before .places-of .ensures) (c .before .before .before .before .before .before .before .before .before .before .before .before .before .before .before .before .before .before .before .before .before .before .before .before .section-at3 .ensures) (l .inv .1) (c .before .before .before .before .before .before .before .before .before .before .before .before .before .before .before .before .before .before .before .before .before .before .before .point-at .ensures) (c .before .before .before .before .before .before .before .before .before .before .before .point-at2 .ensures) (c .before .before .before .before .before .before .before .before .before .before .before .before .before .before .before .before .before .before .before .before .before .before .sub .ensures) (c .before .before .before .before .before .before .before .before .before .before .sub2 .ensures) (l .inv .2) (c .before .before .before .before .before .before .before .before .before .before .before .before .before .before .before .before .before .before .quad .ensures 4) (c .before .before .before .before .before .before .quad2 .ensures 4)
+returns-2 c = let a = c .before .before .before .before .before .before .before .before .before .before .before .before .before .before .before .before .before .before .before .before .before .before .before .before .before .before .before .before .before .before .before .before .before .before .args in let l = c .before .before .before .before .before .before .before .before .before .before .before .before .before .before .before .before .before .before .before .before .before .before .before .before .before .before .before .loop in let h = c .before .before .before .before .before .before .before .before .before .before .before .before .before .before .before .before .before .before .before .before .before .before .before .before .before .before .loop-test .left in let e : l .k + 1 ≡ a .n = omega (arith, h, l .inv .0) in sweep-drawn (a .s .now) (a .at) (a .n) (l .k) e (c .before .before .before .before .before .before .before .before .before .before .before .before .before .before .before .before .before .before .before .before .before .before .before .before .before .end-places .ensures) (c .before .before .before .before .before .before .before .before .before .before .before .before .before .before .before .before .before .before .before .before .before .before .before .before .section-at3 .ensures) (l .inv .1) (c .before .before .before .before .before .before .before .before .before .before .before .before .before .before .before .before .before .before .before .before .before .before .before .point-at .ensures) (c .before .before .before .before .before .before .before .before .before .before .before .point-at2 .ensures) (c .before .before .before .before .before .before .before .before .before .before .before .before .before .before .before .before .before .before .before .before .before .before .sub .ensures) (c .before .before .before .before .before .before .before .before .before .before .sub2 .ensures) (l .inv .2) (c .before .before .before .before .before .before .before .before .before .before .before .before .before .before .before .before .before .before .quad .ensures 4) (c .before .before .before .before .before .before .quad2 .ensures 4)
 
 pub sweep-spec : {M : Type 1} → statement M
 sweep-spec =
     tie.close
     (tie.spec Inv-loop μ-loop returns (λ c κs. omega arith) loop-holds (λ c. omega arith) (λ c. omega arith) (λ c. omega arith) (λ c. omega arith)
-    (λ c κs. omega arith) pair-requires add-k (λ c. omega arith) loop-again places-of-requires (λ c κs. omega arith)
-    (λ c κs. omega (arith, second-in _ (c .before .before .before .loop .inv .0) (c .before .places-of .ensures) (c .before .before .before .before .before .before .before .before .before .before .pre .0))) (λ c κs. tt) quad-requires
-    (λ c κs. omega (arith, c .before .before .before .before .before .before .before .before .before .before .before .before .before .places-of .ensures .beside-end, c .before .before .before .before .before .before .before .before .before .before .before .before .before .before .before .before .before .before .before .before .before .before .pre .0)) (λ c κs. tt) quad-requires-2
+    (λ c κs. omega arith) pair-requires add-k (λ c. omega arith) loop-again end-places-requires (λ c κs. omega arith)
+    (λ c κs. omega (arith, second-in _ (c .before .before .before .loop .inv .0) (c .before .end-places .ensures) (c .before .before .before .before .before .before .before .before .before .before .pre .0))) (λ c κs. tt) quad-requires
+    (λ c κs. omega (arith, c .before .before .before .before .before .before .before .before .before .before .before .before .before .end-places .ensures .beside-end, c .before .before .before .before .before .before .before .before .before .before .before .before .before .before .before .before .before .before .before .before .before .before .pre .0)) (λ c κs. tt) quad-requires-2
     (λ c. c .before .before .before .before .before .before .quad2 .kept .1 .1 .1 .1 .1 .1 .1 .1 .0 ∙ c .before .before .before .before .before .before .before .before .before .before .before .before .before .before .before .before .before .before .quad .kept .1 .1 .1 .1 .1 .1 .1 .1 .0 ∙ drew-vertices (c .before .before .before .before .before .before .before .before .before .before .before .before .before .before .before .before .before .before .before .before .before .before .before .before .before .before .before .before .before .before .before .before .before .before .args .limit) (c .before .before .before .before .before .before .before .before .before .before .before .before .before .before .before .before .before .before .before .before .before .before .before .before .before .before .before .loop .inv .2))
     (λ c. c .before .before .before .before .before .before .quad2 .kept .1 .1 .1 .1 .1 .1 .1 .1 .1 .0 ∙ c .before .before .before .before .before .before .before .before .before .before .before .before .before .before .before .before .before .before .quad .kept .1 .1 .1 .1 .1 .1 .1 .1 .1 .0 ∙ drew-normals (c .before .before .before .before .before .before .before .before .before .before .before .before .before .before .before .before .before .before .before .before .before .before .before .before .before .before .before .before .before .before .before .before .before .before .args .limit) (c .before .before .before .before .before .before .before .before .before .before .before .before .before .before .before .before .before .before .before .before .before .before .before .before .before .before .before .loop .inv .2))
     (λ c. c .before .before .before .before .before .before .quad2 .kept .1 .1 .1 .1 .1 .1 .1 .1 .1 .1 .0 ∙ c .before .before .before .before .before .before .before .before .before .before .before .before .before .before .before .before .before .before .quad .kept .1 .1 .1 .1 .1 .1 .1 .1 .1 .1 .0 ∙ drew-indices (c .before .before .before .before .before .before .before .before .before .before .before .before .before .before .before .before .before .before .before .before .before .before .before .before .before .before .before .before .before .before .before .before .before .before .args .limit) (c .before .before .before .before .before .before .before .before .before .before .before .before .before .before .before .before .before .before .before .before .before .before .before .before .before .before .before .loop .inv .2)) returns-2)

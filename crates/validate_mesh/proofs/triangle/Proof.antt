@@ -1,31 +1,31 @@
 -- `validate_mesh::triangle` meets its contract: its tests are the definition's, in its order. Assumes nothing.
 use borrow.Author.Tests.{le-leb, lt-leb}
 use Rattle.buffer_float.proofs.Vertices.{length-vertices}
-use Rattle.validate.specs.Validate.{triangleAt}
+use Rattle.validate.specs.Validate.{verdictOnTriangle}
 use Rattle.validate_mesh.proofs.triangle.Statement.{statement}
 use Rattle.validate_mesh.proofs.triangle.Tie as tie
 
 returns : tie.Need-returns
-unfolding triangleAt
+unfolding verdictOnTriangle
 returns c = rw (length-vertices, le-leb _ _ (c .if1 .taken))
 
 returns-2 : tie.Need-returns-2
-unfolding triangleAt
+unfolding verdictOnTriangle
 returns-2 c = rw (length-vertices, lt-leb _ _ (c .before .if1 .left), le-leb _ _ (c .if2 .taken))
 
 returns-3 : tie.Need-returns-3
-unfolding triangleAt
+unfolding verdictOnTriangle
 returns-3 c = rw (length-vertices, lt-leb _ _ (c .before .before .if1 .left), lt-leb _ _ (c .before .if2 .left), le-leb _ _ (c .if3 .taken))
 
 degenerate-requires : tie.Need-degenerate-requires
 degenerate-requires c κs = (c .before .before .if1 .left, c .before .if2 .left, c .if3 .left)
 
 returns-4 : tie.Need-returns-4
-unfolding triangleAt
+unfolding verdictOnTriangle
 returns-4 c = rw (length-vertices, lt-leb _ _ (c .before .before .before .before .if1 .left), lt-leb _ _ (c .before .before .before .if2 .left), lt-leb _ _ (c .before .before .if3 .left), ← c .before .degenerate .ensures, c .if4 .taken)
 
 returns-5 : tie.Need-returns-5
-unfolding triangleAt
+unfolding verdictOnTriangle
 returns-5 c = rw (length-vertices, lt-leb _ _ (c .before .before .before .before .if1 .left), lt-leb _ _ (c .before .before .before .if2 .left), lt-leb _ _ (c .before .before .if3 .left), ← c .before .degenerate .ensures, c .if4 .left)
 
 pub triangle-spec : {M : Type 1} → statement M

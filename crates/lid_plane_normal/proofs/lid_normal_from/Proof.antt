@@ -1,10 +1,10 @@
--- `lid_plane_normal::lid_normal` meets its contract. Assumes nothing.
+-- `lid_plane_normal::lid_normal_from` meets its contract. Assumes nothing.
 use mathlib.Core.Path.{_≡_, _∙_}
 use Prim.Native.Nat.{_-_}
 use Rattle.lid_plane.specs.Plane.{lidSide}
 use Rattle.lid_plane.specs.Steps.{lidNormalFrom}
-use Rattle.lid_plane_normal.proofs.lid_normal.Statement.{statement}
-use Rattle.lid_plane_normal.proofs.lid_normal.Tie as tie
+use Rattle.lid_plane_normal.proofs.lid_normal_from.Statement.{statement}
+use Rattle.lid_plane_normal.proofs.lid_normal_from.Tie as tie
 
 -- the side is told of the definition's normal and rise
 side-is : (c : tie.After-dot) → lidSide (c .before .normalize-or .result) (c .dot .result) ≡ lidNormalFrom (c .before .before .args .area) (c .before .before .args .rise)
@@ -32,7 +32,7 @@ returns-3 c =
     let side : n ≡ lidSide n (d .dot .result) = rw (← c .before .before .before .abs .ensures, c .before .before .if1 .left, c .if2 .left) in
     side ∙ side-is d
 
-pub lid-normal-spec : {M : Type 1} → statement M
-lid-normal-spec =
+pub lid-normal-from-spec : {M : Type 1} → statement M
+lid-normal-from-spec =
     tie.close
     (tie.spec (λ c κs. tt) (λ c κs. tt) (λ c κs. tt) (λ c κs. tt) (λ c κs. tt) returns (λ c κs. tt) returns-2 returns-3)
