@@ -20,7 +20,7 @@ use Rattle.object.specs.declared.Orientation.{Orientation}
 use Rattle.object.specs.Object.{Shape, solid, outline, sweep, roundSweep, frame}
 use Rattle.face.specs.Faces.{TriangleLow, FaceLow, Triangle, Face}
 use Rattle.lid_plane.specs.Plane.{topsOf, basesOf, lidNormal, about}
-use Rattle.shape.specs.Shapes.{Axis, alongX, alongY, alongZ, boxFace, boxSides, box, cylinderSide, endFace, cylinderFaces, cylinder, ringAt, ringPoint, solidFaces, wall, walls, outerWalls, holeWalls, allCorners, flatOf, outlineLid, hasHeight, lidFaces, outlineFaces, isThinSection, isFlatSection, pairFaces, pairs, cap, sweepCaps, sweepFaces, Ellipse, ellipse0, ellipse, tubeSide, tubeFaces, tubeCaps, roundSweepFaces, facesOf}
+use Rattle.shape.specs.Shapes.{Axis, alongX, alongY, alongZ, boxFace, boxSides, box, cylinderSide, endFace, cylinderFaces, cylinder, ringAt, ringPoint, solidFaces, wall, walls, outerWalls, holeWalls, allCorners, flatOf, outlineLid, hasHeight, lidFaces, outlineFaces, isWidthlessSection, isFlatSection, pairFaces, pairs, cap, sweepCaps, sweepFaces, Ellipse, ellipse0, ellipse, tubeSide, tubeFaces, tubeCaps, roundSweepFaces, facesOf}
 use Rattle.lists.proofs.Lists.{length-list, each-append, each-list, each-join, each-map, each-at, each-any}
 use Rattle.lists.proofs.Loops.{either}
 use Rattle.face.proofs.Corners.{fan-low, quad-low}
@@ -117,7 +117,7 @@ pair-low : (a b : Section) → Each FaceLow (pairFaces a b)
 unfolding pairFaces
 pair-low a b = (
   quad-low _ _ _ _ _ _,
-  either (Each FaceLow) (isThinSection a && isThinSection b) {x = []} tt
+  either (Each FaceLow) (isWidthlessSection a && isWidthlessSection b) {x = []} tt
       (quad-low _ _ _ _ _ _, (quad-low _ _ _ _ _ _, either (Each FaceLow) (isFlatSection a && isFlatSection b) {x = []} tt (quad-low _ _ _ _ _ _, tt))),
 )
 

@@ -21,7 +21,7 @@ use Rattle.face.specs.Faces.{Triangle, Face, fan, quad}
 use Rattle.lid_plane.specs.Plane.{basesOf, lidNormal, about}
 use Rattle.lid.specs.Lid.{lidPrice}
 use Rattle.shape.specs.Price.{lessFor, solidPrice, outlinePrice, pairPrice, pairsPrice, capsPrice, offered}
-use Rattle.shape.specs.Shapes.{Axis, alongX, alongY, alongZ, onAxis, boxFace, boxSides, box, cylinderSide, endFace, cylinderFaces, cylinder, ringAt, solidFaces, wall, walls, outerWalls, holeWalls, allCorners, flatOf, outlineLid, hasHeight, lidFaces, outlineFaces, isThinSection, isFlatSection, pairFaces, pairs, cap, sweepCaps, sweepFaces, Ellipse, ellipse, tubeSide, tubeFaces, tubeCaps, roundSweepFaces, facesOf}
+use Rattle.shape.specs.Shapes.{Axis, alongX, alongY, alongZ, onAxis, boxFace, boxSides, box, cylinderSide, endFace, cylinderFaces, cylinder, ringAt, solidFaces, wall, walls, outerWalls, holeWalls, allCorners, flatOf, outlineLid, hasHeight, lidFaces, outlineFaces, isWidthlessSection, isFlatSection, pairFaces, pairs, cap, sweepCaps, sweepFaces, Ellipse, ellipse, tubeSide, tubeFaces, tubeCaps, roundSweepFaces, facesOf}
 use Rattle.lists.proofs.Lists.{sum-append, sum-list}
 use Rattle.face.proofs.Counts.{count}
 use Rattle.lid.proofs.Facts.{lid-triangles}
@@ -132,8 +132,8 @@ outline-count true cs holes =
 
 -- ---- sweeps
 
-pair-sum : (thin flat : Bool) (l r t f : Face) → count l ≡ 2 → count r ≡ 2 → count t ≡ 2 → count f ≡ 2
-    → cond thin 2 (cond flat 6 8) ≡ sumOf count (l ∷ cond thin [] (r ∷ t ∷ cond flat [] (f ∷ [])))
+pair-sum : (widthless flat : Bool) (l r t f : Face) → count l ≡ 2 → count r ≡ 2 → count t ≡ 2 → count f ≡ 2
+    → cond widthless 2 (cond flat 6 8) ≡ sumOf count (l ∷ cond widthless [] (r ∷ t ∷ cond flat [] (f ∷ [])))
 unfolding sumOf
 pair-sum true flat l r t f p q u v = omega arith
 pair-sum false true l r t f p q u v = omega arith
@@ -141,7 +141,7 @@ pair-sum false false l r t f p q u v = omega arith
 
 pair-count : (a b : Section) → pairPrice a b ≡ sumOf count (pairFaces a b)
 unfolding pairPrice pairFaces quad fan list
-pair-count a b = pair-sum (isThinSection a && isThinSection b) (isFlatSection a && isFlatSection b) _ _ _ _ refl refl refl refl
+pair-count a b = pair-sum (isWidthlessSection a && isWidthlessSection b) (isFlatSection a && isFlatSection b) _ _ _ _ refl refl refl refl
 
 pairs-count : (ss : List Section) → pairsPrice ss ≡ sumOf count (pairs pairFaces ss)
 unfolding pairsPrice pairs sumOf

@@ -37,7 +37,7 @@ use Rattle.lists.proofs.Lists.{sum-append, sum-list, each-at, each-map, each-an
 use Rattle.lists.proofs.Loops.{either}
 use Rattle.shape.specs.Drawn.{CanDraw}
 use Rattle.shape.specs.Price.{offered, outlinePrice, solidPrice, pairPrice, pairsPrice, capsPrice}
-use Rattle.shape.specs.Shapes.{Axis, alongX, alongY, alongZ, onAxis, boxFace, boxSides, box, cylinderSide, endFace, cylinderFaces, cylinder, ringAt, solidFaces, wall, walls, outerWalls, holeWalls, allCorners, flatOf, outlineLid, hasHeight, lidFaces, outlineFaces, isThinSection, isFlatSection, pairFaces, pairs, cap, sweepCaps, sweepFaces, Ellipse, ellipse, ellipse0, tubeSide, tubeFaces, tubeCaps, roundSweepFaces, facesOf, logOf}
+use Rattle.shape.specs.Shapes.{Axis, alongX, alongY, alongZ, onAxis, boxFace, boxSides, box, cylinderSide, endFace, cylinderFaces, cylinder, ringAt, solidFaces, wall, walls, outerWalls, holeWalls, allCorners, flatOf, outlineLid, hasHeight, lidFaces, outlineFaces, isWidthlessSection, isFlatSection, pairFaces, pairs, cap, sweepCaps, sweepFaces, Ellipse, ellipse, ellipse0, tubeSide, tubeFaces, tubeCaps, roundSweepFaces, facesOf, logOf}
 use Rattle.shape.proofs.Corners.{ring-size, all-total, Sixteen, ellipse-sixteen}
 use Rattle.shape.proofs.Prices.{offered-count}
 
@@ -204,8 +204,8 @@ unfolding pairs sumOf
 pairs-points f n h a [] = zero-le
 pairs-points f n h a (b ∷ rest) = omega (arith, sum-append points (f a b) (pairs f (b ∷ rest)), h a b, pairs-points f n h b rest, mul-suc n (length rest))
 
-four-faces : (thin flat : Bool) (l r t f : Face) → points l ≡ 4 → points r ≡ 4 → points t ≡ 4 → points f ≡ 4
-    → sumOf points (l ∷ cond thin [] (r ∷ t ∷ cond flat [] (f ∷ []))) ≤ 16
+four-faces : (widthless flat : Bool) (l r t f : Face) → points l ≡ 4 → points r ≡ 4 → points t ≡ 4 → points f ≡ 4
+    → sumOf points (l ∷ cond widthless [] (r ∷ t ∷ cond flat [] (f ∷ []))) ≤ 16
 unfolding sumOf
 four-faces true flat l r t f p q u v = omega arith
 four-faces false true l r t f p q u v = omega arith
@@ -213,7 +213,7 @@ four-faces false false l r t f p q u v = omega arith
 
 pair-points : (a b : Section) → sumOf points (pairFaces a b) ≤ 16
 unfolding pairFaces quad
-pair-points a b = four-faces (isThinSection a && isThinSection b) (isFlatSection a && isFlatSection b) _ _ _ _ refl refl refl refl
+pair-points a b = four-faces (isWidthlessSection a && isWidthlessSection b) (isFlatSection a && isFlatSection b) _ _ _ _ refl refl refl refl
 
 pub sweep-points : (ss : List Section) → sumOf points (sweepFaces ss) ≤ 16 * length ss - 8
 unfolding sweepFaces sweepCaps cap quad sumOf pairs
@@ -223,7 +223,7 @@ sweep-points (s ∷ rest) = omega (arith, sum-append points (pairs pairFaces (s 
 pair-most : (a b : Section) → pairPrice a b ≤ 8
 unfolding pairPrice
 pair-most a b =
-    either (λ (n : ℕ). n ≤ 8) (isThinSection a && isThinSection b) {x = 2} (omega arith) (either (λ (n : ℕ). n ≤ 8) (isFlatSection a && isFlatSection b) {x = 6} {y = 8} (omega arith) (omega arith))
+    either (λ (n : ℕ). n ≤ 8) (isWidthlessSection a && isWidthlessSection b) {x = 2} (omega arith) (either (λ (n : ℕ). n ≤ 8) (isFlatSection a && isFlatSection b) {x = 6} {y = 8} (omega arith) (omega arith))
 
 pairs-most : (a : Section) (rest : List Section) → pairsPrice (a ∷ rest) ≤ 8 * length rest
 unfolding pairsPrice

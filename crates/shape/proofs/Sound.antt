@@ -21,7 +21,7 @@ use Rattle.object.specs.declared.Orientation.{Orientation}
 use Rattle.object.specs.Object.{Shape, solid, outline, sweep, roundSweep}
 use Rattle.face.specs.Faces.{Triangle, quad}
 use Rattle.lid_plane.specs.Plane.{topsOf, basesOf, lidNormal, about}
-use Rattle.shape.specs.Shapes.{Axis, alongX, alongY, alongZ, onAxis, boxPoint, boxFace, boxSides, box, ringAt, cylinderSide, endFace, cylinderFaces, cylinder, solidFaces, corner0, wall, walls, outerWalls, holeWalls, allCorners, outlineLid, hasHeight, lidFaces, outlineFaces, isThinSection, isFlatSection, pairFaces, pairs, cap, sweepCaps, sweepFaces, section0, Ellipse, ellipse, ellipse0, tubeSide, tubeFaces, tubeCaps, roundSweepFaces, facesOf}
+use Rattle.shape.specs.Shapes.{Axis, alongX, alongY, alongZ, onAxis, boxPoint, boxFace, boxSides, box, ringAt, cylinderSide, endFace, cylinderFaces, cylinder, solidFaces, corner0, wall, walls, outerWalls, holeWalls, allCorners, outlineLid, hasHeight, lidFaces, outlineFaces, isWidthlessSection, isFlatSection, pairFaces, pairs, cap, sweepCaps, sweepFaces, section0, Ellipse, ellipse, ellipse0, tubeSide, tubeFaces, tubeCaps, roundSweepFaces, facesOf}
 use Rattle.lists.proofs.Lists.{each-at, each-list, each-append, each-getD, each-cond, each-map, each-join, each-imp}
 use Rattle.float.proofs.Within.{Within}
 use Rattle.coords.proofs.Near.{NearP, nearP-up, origin-near}
@@ -157,7 +157,7 @@ pair-sound : (a b : Section) → NearS 6 24 a → NearS 6 24 b → Each Sound (p
 unfolding pairFaces
 pair-sound a b m n = (
   quad-sound 1 _ _ _ _ _ (m .left .base) (n .left .base) (n .left .top) (m .left .top),
-  each-cond Sound (isThinSection a && isThinSection b) [] _ tt (
+  each-cond Sound (isWidthlessSection a && isWidthlessSection b) [] _ tt (
     quad-sound 1 _ _ _ _ _ (m .right .base) (n .right .base) (n .right .top) (m .right .top),
     (
       quad-sound 1 _ _ _ _ _ (m .left .top) (n .left .top) (n .right .top) (m .right .top),

@@ -24,7 +24,7 @@ use Rattle.face.specs.Faces.{Triangle, Face, quad}
 use Rattle.face.specs.Drawing.{tally, Drawing, drawing, counted, drawn, Drew}
 use Rattle.face.proofs.Draws.{then, drew-none, drew-tally}
 use Rattle.lid_plane.specs.Plane.{about, lidNormal}
-use Rattle.shape.specs.Shapes.{Axis, boxFace, boxSides, box, alongX, alongY, alongZ, cylinderSide, endFace, cylinderFaces, cylinder, ringAt, solidFaces, wall, walls, outerWalls, holeWalls, allCorners, hasHeight, lidFaces, outlineFaces, isThinSection, isFlatSection, pairFaces, pairs, cap, sweepCaps, sweepFaces, Ellipse, ellipse, tubeSide, tubeFaces, tubeCaps, roundSweepFaces, facesOf}
+use Rattle.shape.specs.Shapes.{Axis, boxFace, boxSides, box, alongX, alongY, alongZ, cylinderSide, endFace, cylinderFaces, cylinder, ringAt, solidFaces, wall, walls, outerWalls, holeWalls, allCorners, hasHeight, lidFaces, outlineFaces, isWidthlessSection, isFlatSection, pairFaces, pairs, cap, sweepCaps, sweepFaces, Ellipse, ellipse, tubeSide, tubeFaces, tubeCaps, roundSweepFaces, facesOf}
 use Rattle.shape.specs.Stages.{PartRun, talliesOf, DrewStages, stage, sideStages, boxStages, fourStages, cylinderStages, solidStages, lidFace, floorFaces, lidStages, outlineStages, sweepStages, roundStages, stagesOf}
 
 -- ---- the faces
@@ -121,7 +121,7 @@ pairs-parts f h (a ∷ b ∷ rest) = each-append (Of 1) (f a b) (pairs f (b ∷ 
 pair-parts : (a b : Section) → Each (Of 1) (pairFaces a b)
 unfolding pairFaces quad
 pair-parts a b =
-    (refl, either (Each (Of 1)) (isThinSection a && isThinSection b) {x = []} tt (refl, (refl, either (Each (Of 1)) (isFlatSection a && isFlatSection b) {x = []} tt (refl, tt))))
+    (refl, either (Each (Of 1)) (isWidthlessSection a && isWidthlessSection b) {x = []} tt (refl, (refl, either (Each (Of 1)) (isFlatSection a && isFlatSection b) {x = []} tt (refl, tt))))
 
 caps-parts : (ss : List Section) → Each (Of 4) (sweepCaps ss)
 unfolding sweepCaps cap quad

@@ -12,7 +12,7 @@ use Rattle.object.specs.declared.Extent.the-variants.{Box, Cylinder, Unsized}
 use Rattle.object.specs.declared.Section.{Section}
 use Rattle.object.specs.Object.{Shape, solid, outline, sweep, roundSweep}
 use Rattle.lid.specs.Lid.{lidPrice}
-use Rattle.shape.specs.Shapes.{allCorners, flatOf, outlineLid, hasHeight, isThinSection, isFlatSection}
+use Rattle.shape.specs.Shapes.{allCorners, flatOf, outlineLid, hasHeight, isWidthlessSection, isFlatSection}
 
 -- 2 for a size of zero, of either sign
 unfoldable pub lessFor : Float → ℕ
@@ -29,9 +29,9 @@ outlinePrice true cs holes =
     let t = lidPrice (flatOf cs holes) (outlineLid cs holes .log) in
     2 * length cs + 2 * sumOf length holes + t + cond (hasHeight (allCorners cs holes)) t 0
 
--- a pair of sections: thin goes first
+-- a pair of sections: widthless goes first
 unfoldable pub pairPrice : Section → Section → ℕ
-pairPrice a b = cond (isThinSection a && isThinSection b) 2 (cond (isFlatSection a && isFlatSection b) 6 8)
+pairPrice a b = cond (isWidthlessSection a && isWidthlessSection b) 2 (cond (isFlatSection a && isFlatSection b) 6 8)
 
 unfoldable pub pairsPrice : List Section → ℕ
 pairsPrice [] = 0

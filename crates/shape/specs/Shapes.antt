@@ -142,8 +142,9 @@ section0 = record { left = corner0; right = corner0 }
 unfoldable pub sameCorner : Corner → Corner → Bool
 sameCorner a b = samePoint (a .base) (b .base) && samePoint (a .top) (b .top)
 
-unfoldable pub isThinSection : Section → Bool
-isThinSection s = sameCorner (s .left) (s .right)
+-- thin, as `sweep` and document 01 have it; elsewhere only triangles are called thin
+unfoldable pub isWidthlessSection : Section → Bool
+isWidthlessSection s = sameCorner (s .left) (s .right)
 
 unfoldable pub isFlatSection : Section → Bool
 isFlatSection s = samePoint (s .left .base) (s .left .top) && samePoint (s .right .base) (s .right .top)
@@ -159,7 +160,7 @@ pairFaces a b =
     let side = vector (neg (along .y)) (along .x) zerof in
     let floor = cond (isFlatSection a && isFlatSection b) [] (quad 1 (al .base) (bl .base) (br .base) (ar .base) (negate unitZ) ∷ []) in
     let more = quad 1 (ar .base) (br .base) (br .top) (ar .top) (negate side) ∷ quad 1 (al .top) (bl .top) (br .top) (ar .top) unitZ ∷ floor in
-    quad 1 (al .base) (bl .base) (bl .top) (al .top) side ∷ cond (isThinSection a && isThinSection b) [] more
+    quad 1 (al .base) (bl .base) (bl .top) (al .top) side ∷ cond (isWidthlessSection a && isWidthlessSection b) [] more
 
 -- f at each pair of neighbours
 unfoldable pub pairs : {A B : Type 0} → (A → A → List B) → List A → List B

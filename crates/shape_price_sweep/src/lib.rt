@@ -12,13 +12,13 @@ ghost use Rattle.shape.specs.Price.{pairPrice, offered};
 use object::Section;
 use scene_field_point::section_at;
 use shape_section::is_flat;
-use shape_section::is_thin;
+use shape_section::is_widthless;
 
-// Of two neighbouring sections: thin goes first.
+// Of two neighbouring sections: widthless goes first.
 fn pair_price(a: Section, b: Section) -> u32
     ensures { λ r. ⌜ (r ≡ pairPrice a b) × (r ≤ 8) ⌝ }
 {
-    if is_thin(a) & is_thin(b) {
+    if is_widthless(a) & is_widthless(b) {
         return 2;
     }
     if is_flat(a) & is_flat(b) {

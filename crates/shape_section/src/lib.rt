@@ -1,6 +1,6 @@
 // The sections of a sweep, told apart as `sweep` has it.
 ghost use mathlib.Core.Path.{_≡_};
-ghost use Rattle.shape.specs.Shapes.{sameCorner, isThinSection, isFlatSection};
+ghost use Rattle.shape.specs.Shapes.{sameCorner, isWidthlessSection, isFlatSection};
 use object::Corner;
 use object::Section;
 
@@ -14,8 +14,9 @@ fn same_corner(a: Corner, b: Corner) -> bool
     ab.eq(bb) & at.eq(bt)
 }
 
-pub fn is_thin(s: Section) -> bool
-    ensures { λ r. ⌜ r ≡ isThinSection s ⌝ }
+// `thin` of `sweep`.
+pub fn is_widthless(s: Section) -> bool
+    ensures { λ r. ⌜ r ≡ isWidthlessSection s ⌝ }
 {
     let l = s.left;
     let r = s.right;

@@ -22,7 +22,7 @@ use Rattle.face.proofs.Draws.{then}
 use Rattle.scene_field.specs.Fields.{pointAt, cornerAt, sectionAt, sectionsAt}
 use Rattle.scene.proofs.Parts.{sections-get}
 use Rattle.shape_section_ends.specs.Places.{EndPlaces}
-use Rattle.shape.specs.Shapes.{section0, isThinSection, isFlatSection, pairFaces, pairs, startOut, endOut, cap, sweepCaps}
+use Rattle.shape.specs.Shapes.{section0, isWidthlessSection, isFlatSection, pairFaces, pairs, startOut, endOut, cap, sweepCaps}
 use Rattle.shape.specs.Stages.{fourStages, sweepStages, DrewStages}
 use Rattle.shape.proofs.Stages.{stages-capped}
 use Rattle.shape_section_ends.proofs.Neighbours.{ends-are}
@@ -31,8 +31,8 @@ use Rattle.shape_section_ends.proofs.Neighbours.{ends-are}
 abbrev size : Face → ℕ
 size f = length (f .points)
 
-four-most : (h : Face → ℕ) (c : ℕ) (thin flat : Bool) (l r t f : Face) → h l ≡ c → h r ≡ c → h t ≡ c → h f ≡ c
-    → sumOf h (l ∷ cond thin [] (r ∷ t ∷ cond flat [] (f ∷ []))) ≤ c + (c + (c + c))
+four-most : (h : Face → ℕ) (c : ℕ) (widthless flat : Bool) (l r t f : Face) → h l ≡ c → h r ≡ c → h t ≡ c → h f ≡ c
+    → sumOf h (l ∷ cond widthless [] (r ∷ t ∷ cond flat [] (f ∷ []))) ≤ c + (c + (c + c))
 unfolding sumOf
 four-most h c true flat l r t f p q u v = omega arith
 four-most h c false true l r t f p q u v = omega arith
@@ -40,23 +40,23 @@ four-most h c false false l r t f p q u v = omega arith
 
 pub pair-points : (a b : Section) → sumOf size (pairFaces a b) ≤ 16
 unfolding pairFaces quad fan list
-pair-points a b = four-most size 4 (isThinSection a && isThinSection b) (isFlatSection a && isFlatSection b) _ _ _ _ refl refl refl refl
+pair-points a b = four-most size 4 (isWidthlessSection a && isWidthlessSection b) (isFlatSection a && isFlatSection b) _ _ _ _ refl refl refl refl
 
 pub pair-triangles : (a b : Section) → sumOf count (pairFaces a b) ≤ 8
 unfolding pairFaces quad fan list
-pair-triangles a b = four-most count 2 (isThinSection a && isThinSection b) (isFlatSection a && isFlatSection b) _ _ _ _ refl refl refl refl
+pair-triangles a b = four-most count 2 (isWidthlessSection a && isWidthlessSection b) (isFlatSection a && isFlatSection b) _ _ _ _ refl refl refl refl
 
 both : {p q x y v : Bool} → x ≡ p → y ≡ q → x && y ≡ v → p && q ≡ v
 both e f g = sym (ap₂ _&&_ e f) ∙ g
 
--- the faces between two sections drawn one by one: thin ones have the left wall only, flat ones no floor
-module _ (a b : Section) {limit : Float} {before : ℕ} {out : Vector} {thinA thinB : Bool} (side : out ≡ vector (neg (diff (b .left .base) (a .left .base) .y)) (diff (b .left .base) (a .left .base) .x) zerof)
-    (isA : thinA ≡ isThinSection a) (isB : thinB ≡ isThinSection b) {d d₁ : Drawing} (left : Drew limit (quad 1 (a .left .base) (b .left .base) (b .left .top) (a .left .top) out ∷ []) before d d₁) where
-  pub thin-pair : thinA && thinB ≡ true → Drew limit (pairFaces a b) before d d₁
+-- the faces between two sections drawn one by one: widthless ones have the left wall only, flat ones no floor
+module _ (a b : Section) {limit : Float} {before : ℕ} {out : Vector} {widthlessA widthlessB : Bool} (side : out ≡ vector (neg (diff (b .left .base) (a .left .base) .y)) (diff (b .left .base) (a .left .base) .x) zerof)
+    (isA : widthlessA ≡ isWidthlessSection a) (isB : widthlessB ≡ isWidthlessSection b) {d d₁ : Drawing} (left : Drew limit (quad 1 (a .left .base) (b .left .base) (b .left .top) (a .left .top) out ∷ []) before d d₁) where
+  pub widthless-pair : widthlessA && widthlessB ≡ true → Drew limit (pairFaces a b) before d d₁
   unfolding pairFaces
-  thin-pair t = rw (both isA isB t, ← side) left
+  widthless-pair t = rw (both isA isB t, ← side) left
 
-  module _ (t : thinA && thinB ≡ false) {back : Vector} {flatA flatB : Bool} (behind : back ≡ negate out) (onA : flatA ≡ isFlatSection a) (onB : flatB ≡ isFlatSection b) {d₂ d₃ : Drawing}
+  module _ (t : widthlessA && widthlessB ≡ false) {back : Vector} {flatA flatB : Bool} (behind : back ≡ negate out) (onA : flatA ≡ isFlatSection a) (onB : flatB ≡ isFlatSection b) {d₂ d₃ : Drawing}
       (right : Drew limit (quad 1 (a .right .base) (b .right .base) (b .right .top) (a .right .top) back ∷ []) before d₁ d₂)
       (top : Drew limit (quad 1 (a .left .top) (b .left .top) (b .right .top) (a .right .top) unitZ ∷ []) before d₂ d₃) where
     pub flat-pair : flatA && flatB ≡ true → Drew limit (pairFaces a b) before d d₃

@@ -20,7 +20,7 @@ use scene_field_point::point_at;
 use scene_field_point::section_at;
 use shape::StageTallies;
 use shape_section::is_flat;
-use shape_section::is_thin;
+use shape_section::is_widthless;
 use shape_section_ends::end_places;
 
 // To the left of the way from a to b.
@@ -63,7 +63,7 @@ fn pair(
         ns,
         is,
     );
-    if is_thin(a) & is_thin(b) {
+    if is_widthless(a) & is_widthless(b) {
         return u;
     }
     let w = quad(
