@@ -20,7 +20,7 @@ whole (fin s m e) = let n = m * up e * 2 ^ 149 / down e in cond s (negℤ (pos n
 -- (b0 - a0)(c1 - a1) - (b1 - a1)(c0 - a0), without rounding
 unfoldable pub exactTurn : Flat → Flat → Flat → ℤ
 exactTurn a b c =
-    (whole (b .u) -ℤ whole (a .u)) *ℤ (whole (c .v) -ℤ whole (a .v)) -ℤ (whole (b .v) -ℤ whole (a .v)) *ℤ (whole (c .u) -ℤ whole (a .u))
+    (whole (b .x) -ℤ whole (a .x)) *ℤ (whole (c .y) -ℤ whole (a .y)) -ℤ (whole (b .y) -ℤ whole (a .y)) *ℤ (whole (c .x) -ℤ whole (a .x))
 
 unfoldable pub exactArea : List Flat → ℕ → ℕ → ℕ → ℤ
 exactArea fs a b c = exactTurn (corner fs a) (corner fs b) (corner fs c)

@@ -21,18 +21,18 @@ use Rattle.lid.specs.Rings.{placeOf, corner, turn, Hole}
 
 -- the place in the hole of its rightmost corner, the last of equals
 abbrev pub rightmostStep : List Flat → List ℕ → ℕ → ℕ → ℕ
-rightmostStep fs hole k best = cond (totalLess (corner fs (getD hole k 0) .u) (corner fs (getD hole best 0) .u)) best k
+rightmostStep fs hole k best = cond (totalLess (corner fs (getD hole k 0) .x) (corner fs (getD hole best 0) .x)) best k
 
 unfoldable pub rightmost : List Flat → List ℕ → ℕ
 rightmost fs hole = loop (rightmostStep fs hole) (length hole) 0 0
 
--- the edge from a to b does not meet the line through m along u
+-- the edge from a to b does not meet the line through m along x
 unfoldable pub passes : Flat → Flat → Flat → Bool
-passes m a b = eq (a .v) (b .v) || (Bool·beq (lt (m .v) (a .v)) (lt (m .v) (b .v)) && ne (a .v) (m .v) && ne (b .v) (m .v))
+passes m a b = eq (a .y) (b .y) || (Bool·beq (lt (m .y) (a .y)) (lt (m .y) (b .y)) && ne (a .y) (m .y) && ne (b .y) (m .y))
 
 -- where the edge from a to b meets that line
 unfoldable pub meets : Flat → Flat → Flat → Float
-meets m a b = a .u +f (m .v -f a .v) *f (b .u -f a .u) /f (b .v -f a .v)
+meets m a b = a .x +f (m .y -f a .y) *f (b .x -f a .x) /f (b .y -f a .y)
 
 -- x is no nearer than what was hit before
 unfoldable pub noNearer : Hit → Float → Bool
@@ -43,14 +43,14 @@ noNearer (Edge best p) x = le best x
 unfoldable pub hitEdge : Flat → Flat → Flat → ℕ → ℕ → Hit → Hit
 hitEdge m a b k j h =
     let x = meets m a b in
-    cond (passes m a b) h (cond (lt x (m .u) || noNearer h x) h (Edge x (placeOf (cond (lt (b .u) (a .u)) k j))))
+    cond (passes m a b) h (cond (lt x (m .x) || noNearer h x) h (Edge x (placeOf (cond (lt (b .x) (a .x)) k j))))
 
 unfoldable pub hitAt : List Flat → List ℕ → Flat → ℕ → Hit → Hit
 hitAt fs ring m k h =
     let j = next (length ring) k in
     hitEdge m (corner fs (getD ring k 0)) (corner fs (getD ring j 0)) k j h
 
--- where the ray from m toward +u meets the ring first: at which u, and the place of the rightmost end of that edge
+-- where the ray from m toward +x meets the ring first: at which x, and the place of the rightmost end of that edge
 unfoldable pub firstHit : List Flat → List ℕ → Flat → Hit
 firstHit fs ring m = loop (hitAt fs ring m) (length ring) 0 Nothing
 
@@ -59,7 +59,7 @@ unfoldable pub inside : Flat → Flat → Flat → Float → Flat → Bool
 inside m i p s r = le zerof (turn m i r *f s) && le zerof (turn i p r *f s) && le zerof (turn p m r *f s)
 
 unfoldable pub slopeOf : Flat → Flat → Float
-slopeOf m r = magnitude (r .v -f m .v) /f larger (r .u -f m .u) minPositive
+slopeOf m r = magnitude (r .y -f m .y) /f larger (r .x -f m .x) minPositive
 
 -- place k of the ring, where corner c stands, with `end` the corner of the edge that was hit
 unfoldable pub seenAt : List Flat → List ℕ → Flat → Flat → ℕ → Float → ℕ → Seen → Seen
@@ -67,7 +67,7 @@ seenAt fs ring m i end s k best =
     let c = getD ring k 0 in
     let r = corner fs c in
     let y = slopeOf m r in
-    cond (eq s zerof || eqb c end || lt (r .u) (m .u) || not (inside m i (corner fs end) s r)) best
+    cond (eq s zerof || eqb c end || lt (r .x) (m .x) || not (inside m i (corner fs end) s r)) best
     (cond (lt y (best .slope)) (record { slope = y; place = placeOf k }) best)
 
 -- the place that m sees, where the ray hit at i an edge whose rightmost end stands at place `target`
@@ -101,7 +101,7 @@ copyOf fs ring m target = orElse (first (isCopy fs ring m (getD ring target 0)) 
 -- a hole is joined at a place of the ring and a place of the hole, or stays apart where its ray meets nothing
 unfoldable pub bridgeAt : List Flat → List ℕ → Flat → ℕ → Hit → Bridged
 bridgeAt fs ring m j Nothing = Unjoined
-bridgeAt fs ring m j (Edge x target) = Joined (placeOf (copyOf fs ring m (visible fs ring m (record { u = x; v = m .v }) (target .0)))) (placeOf j)
+bridgeAt fs ring m j (Edge x target) = Joined (placeOf (copyOf fs ring m (visible fs ring m (record { x = x; y = m .y }) (target .0)))) (placeOf j)
 
 unfoldable pub bridge : List Flat → List ℕ → List ℕ → Bridged
 bridge fs ring hole =

@@ -20,22 +20,22 @@ abbrev pub placeOf : ℕ → RingPlace
 placeOf i = record { 0 = i }
 
 abbrev pub flat0 : Flat
-flat0 = record { u = zerof; v = zerof }
+flat0 = record { x = zerof; y = zerof }
 
 -- the flat corners whose coordinates two lists hold
 unfoldable pub flats : List Float → List Float → List Flat
-flats us vs = list (λ i. record { u = getD us i zerof; v = getD vs i zerof }) (length us) 0
+flats xs ys = list (λ i. record { x = getD xs i zerof; y = getD ys i zerof }) (length xs) 0
 
 -- and those of two slices, as they are lent
 abbrev pub flatsIn : Slice Float → Slice Float → List Flat
-flatsIn us vs = flats (now (us .entry)) (now (vs .entry))
+flatsIn xs ys = flats (now (xs .entry)) (now (ys .entry))
 
 unfoldable pub corner : List Flat → ℕ → Flat
 corner fs i = getD fs i flat0
 
 -- the turn at b from a to c, rounded as the Rust rounds it
 unfoldable pub turn : Flat → Flat → Flat → Float
-turn a b c = (b .u -f a .u) *f (c .v -f a .v) -f (b .v -f a .v) *f (c .u -f a .u)
+turn a b c = (b .x -f a .x) *f (c .y -f a .y) -f (b .y -f a .y) *f (c .x -f a .x)
 
 unfoldable pub turnOf : List Flat → ℕ → ℕ → ℕ → Float
 turnOf fs a b c = turn (corner fs a) (corner fs b) (corner fs c)
@@ -83,7 +83,7 @@ skippedFrom fs k (r ∷ rs) = let more = skippedFrom fs (suc k) rs in cond (tooS
 
 -- a hole's greatest first coordinate
 abbrev pub rightStep : List Flat → Float → ℕ → Float
-rightStep fs best i = larger best (corner fs i .u)
+rightStep fs best i = larger best (corner fs i .x)
 
 unfoldable pub right : List Flat → List ℕ → Float
 right fs ring = fold (rightStep fs) minf ring

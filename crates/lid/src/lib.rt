@@ -12,11 +12,11 @@ pub struct RingPlace(pub usize);
 
 // A flat corner: the pair of f32 on which the lid is cut.
 pub struct Flat {
-    pub u: f32,
-    pub v: f32,
+    pub x: f32,
+    pub y: f32,
 }
 
-// What a ray meets: an edge, at which u, and the place of the edge's rightmost end; or nothing.
+// What a ray meets: an edge, at which x, and the place of the edge's rightmost end; or nothing.
 pub enum Hit {
     Edge(f32, RingPlace),
     Nothing,

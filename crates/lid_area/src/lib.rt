@@ -11,45 +11,45 @@ use lid_flat::turn;
 use lid_ring_place::place_after;
 
 // The area so far with the turn of one more triangle of the fan.
-fn area_step(us: &[f32], vs: &[f32], ring: &[u32], at: RingPlace, sum: f32) -> f32
+fn area_step(xs: &[f32], ys: &[f32], ring: &[u32], at: RingPlace, sum: f32) -> f32
     requires { ⌜ at .0 < length (now ring) ⌝ }
-    ensures { λ r. ⌜ r ≡ areaStep (flatsIn us vs) (now (ring .entry)) (at .0) sum ⌝ }
+    ensures { λ r. ⌜ r ≡ areaStep (flatsIn xs ys) (now (ring .entry)) (at .0) sum ⌝ }
 {
     let next = place_after(ring.len(), at);
-    let a = flat_of(us, vs, ring, RingPlace(0));
-    let b = flat_of(us, vs, ring, at);
-    let c = flat_of(us, vs, ring, next);
+    let a = flat_of(xs, ys, ring, RingPlace(0));
+    let b = flat_of(xs, ys, ring, at);
+    let c = flat_of(xs, ys, ring, next);
     sum + turn(a, b, c)
 }
 
 // Twice a ring's area, rounded as the Rust rounds it.
-pub fn area(us: &[f32], vs: &[f32], ring: &[u32]) -> f32
-    ensures { λ r. ⌜ r ≡ area (flatsIn us vs) (now (ring .entry)) ⌝ }
+pub fn area(xs: &[f32], ys: &[f32], ring: &[u32]) -> f32
+    ensures { λ r. ⌜ r ≡ area (flatsIn xs ys) (now (ring .entry)) ⌝ }
 {
     let mut sum = 0.0;
     let mut k = 0;
     while k < ring.len() {
-        sum = area_step(us, vs, ring, RingPlace(k), sum);
+        sum = area_step(xs, ys, ring, RingPlace(k), sum);
         k += 1;
     }
     sum
 }
 
-fn right_step(us: &[f32], vs: &[f32], best: f32, c: CornerNumber) -> f32
-    ensures { λ r. ⌜ r ≡ rightStep (flatsIn us vs) best (c .0) ⌝ }
+fn right_step(xs: &[f32], ys: &[f32], best: f32, c: CornerNumber) -> f32
+    ensures { λ r. ⌜ r ≡ rightStep (flatsIn xs ys) best (c .0) ⌝ }
 {
-    let f = flat_at(us, vs, c);
-    float_sign::max(best, f.u)
+    let f = flat_at(xs, ys, c);
+    float_sign::max(best, f.x)
 }
 
 // A ring's greatest first coordinate.
-pub fn right(us: &[f32], vs: &[f32], ring: &[u32]) -> f32
-    ensures { λ r. ⌜ r ≡ right (flatsIn us vs) (now (ring .entry)) ⌝ }
+pub fn right(xs: &[f32], ys: &[f32], ring: &[u32]) -> f32
+    ensures { λ r. ⌜ r ≡ right (flatsIn xs ys) (now (ring .entry)) ⌝ }
 {
     let mut best = f32::from_bits(0xff7f_ffff);
     let mut k = 0;
     while k < ring.len() {
-        best = right_step(us, vs, best, CornerNumber(ring[k]));
+        best = right_step(xs, ys, best, CornerNumber(ring[k]));
         k += 1;
     }
     best

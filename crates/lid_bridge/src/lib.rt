@@ -34,21 +34,21 @@ fn inside(m: Flat, i: Flat, p: Flat, s: f32, r: Flat) -> bool
 fn slope(m: Flat, r: Flat) -> f32
     ensures { λ q. ⌜ q ≡ slopeOf m r ⌝ }
 {
-    float_sign::abs(r.v - m.v) / float_sign::max(r.u - m.u, MIN_POSITIVE)
+    float_sign::abs(r.y - m.y) / float_sign::max(r.x - m.x, MIN_POSITIVE)
 }
 
 // The shallowest slope so far, with the corner at one more place.
-fn seen_at(us: &[f32], vs: &[f32], ring: &[u32], ray: Ray, at: RingPlace, best: Seen) -> Seen
+fn seen_at(xs: &[f32], ys: &[f32], ring: &[u32], ray: Ray, at: RingPlace, best: Seen) -> Seen
     requires { ⌜ at .0 < length (now ring) ⌝ }
-    ensures { λ r. ⌜ r ≡ seenAt (flatsIn us vs) (now (ring .entry)) (ray .m) (ray .i) (ray .end .0) (ray .s) (at .0) best ⌝ }
+    ensures { λ r. ⌜ r ≡ seenAt (flatsIn xs ys) (now (ring .entry)) (ray .m) (ray .i) (ray .end .0) (ray .s) (at .0) best ⌝ }
 {
     let k = at.0;
     let c = ring[k];
-    let r = flat_at(us, vs, CornerNumber(c));
-    if (ray.s == 0.0) | (c == ray.end.0) | (r.u < ray.m.u) {
+    let r = flat_at(xs, ys, CornerNumber(c));
+    if (ray.s == 0.0) | (c == ray.end.0) | (r.x < ray.m.x) {
         return best;
     }
-    let p = flat_at(us, vs, ray.end);
+    let p = flat_at(xs, ys, ray.end);
     if !inside(ray.m, ray.i, p, ray.s, r) {
         return best;
     }
@@ -63,27 +63,27 @@ fn seen_at(us: &[f32], vs: &[f32], ring: &[u32], ray: Ray, at: RingPlace, best: 
 }
 
 // The ray from m that meets at i an edge whose rightmost end stands at `target`.
-fn ray_to(us: &[f32], vs: &[f32], ring: &[u32], m: Flat, i: Flat, target: RingPlace) -> Ray
-    ensures { λ r. ⌜ r ≡ rayTo (flatsIn us vs) (now (ring .entry)) m i (target .0) ⌝ }
+fn ray_to(xs: &[f32], ys: &[f32], ring: &[u32], m: Flat, i: Flat, target: RingPlace) -> Ray
+    ensures { λ r. ⌜ r ≡ rayTo (flatsIn xs ys) (now (ring .entry)) m i (target .0) ⌝ }
 {
     let end = number_at(ring, target);
-    let p = flat_at(us, vs, end);
+    let p = flat_at(xs, ys, end);
     let s = float_sign::signum(turn(m, i, p));
     Ray { m, i, end, s }
 }
 
 // The place that m sees, where the ray meets at i an edge whose rightmost end stands at `target`.
-fn visible(us: &[f32], vs: &[f32], ring: &[u32], m: Flat, i: Flat, target: RingPlace) -> RingPlace
-    ensures { λ r. ⌜ r .0 ≡ visible (flatsIn us vs) (now (ring .entry)) m i (target .0) ⌝ }
+fn visible(xs: &[f32], ys: &[f32], ring: &[u32], m: Flat, i: Flat, target: RingPlace) -> RingPlace
+    ensures { λ r. ⌜ r .0 ≡ visible (flatsIn xs ys) (now (ring .entry)) m i (target .0) ⌝ }
 {
-    let ray = ray_to(us, vs, ring, m, i, target);
+    let ray = ray_to(xs, ys, ring, m, i, target);
     let mut best = Seen {
         slope: f32::from_bits(0x7f80_0000),
         place: target,
     };
     let mut k = 0;
     while k < ring.len() {
-        best = seen_at(us, vs, ring, ray, RingPlace(k), best);
+        best = seen_at(xs, ys, ring, ray, RingPlace(k), best);
         k += 1;
     }
     best.place
@@ -103,27 +103,27 @@ fn sits_in(m: Flat, a: Flat, v: Flat, b: Flat) -> bool
 }
 
 // Whether a place holds corner c and m sits in it there.
-fn is_copy(us: &[f32], vs: &[f32], ring: &[u32], m: Flat, c: CornerNumber, at: RingPlace) -> bool
+fn is_copy(xs: &[f32], ys: &[f32], ring: &[u32], m: Flat, c: CornerNumber, at: RingPlace) -> bool
     requires { ⌜ at .0 < length (now ring) ⌝ }
-    ensures { λ r. ⌜ r ≡ isCopy (flatsIn us vs) (now (ring .entry)) m (c .0) (at .0) ⌝ }
+    ensures { λ r. ⌜ r ≡ isCopy (flatsIn xs ys) (now (ring .entry)) m (c .0) (at .0) ⌝ }
 {
     let t = corners_at(ring, at);
     if t.b.0 != c.0 {
         return false;
     }
-    let a = flat_at(us, vs, t.a);
-    let v = flat_at(us, vs, c);
-    let b = flat_at(us, vs, t.c);
+    let a = flat_at(xs, ys, t.a);
+    let v = flat_at(xs, ys, c);
+    let b = flat_at(xs, ys, t.c);
     sits_in(m, a, v, b)
 }
 
 // The first such place.
-fn find_copy(us: &[f32], vs: &[f32], ring: &[u32], m: Flat, c: CornerNumber) -> Found
-    ensures { λ r. ⌜ r ≡ first (isCopy (flatsIn us vs) (now (ring .entry)) m (c .0)) (length (now (ring .entry))) 0 ⌝ }
+fn find_copy(xs: &[f32], ys: &[f32], ring: &[u32], m: Flat, c: CornerNumber) -> Found
+    ensures { λ r. ⌜ r ≡ first (isCopy (flatsIn xs ys) (now (ring .entry)) m (c .0)) (length (now (ring .entry))) 0 ⌝ }
 {
     let mut k = 0;
     while k < ring.len() {
-        if is_copy(us, vs, ring, m, c, RingPlace(k)) {
+        if is_copy(xs, ys, ring, m, c, RingPlace(k)) {
             return Found::At(k);
         }
         k += 1;
@@ -132,26 +132,26 @@ fn find_copy(us: &[f32], vs: &[f32], ring: &[u32], m: Flat, c: CornerNumber) -> 
 }
 
 // Of the places that hold the corner at `target`, the first that m sits in, or `target` where there is none.
-fn copy_of(us: &[f32], vs: &[f32], ring: &[u32], m: Flat, target: RingPlace) -> RingPlace
-    ensures { λ r. ⌜ r .0 ≡ copyOf (flatsIn us vs) (now (ring .entry)) m (target .0) ⌝ }
+fn copy_of(xs: &[f32], ys: &[f32], ring: &[u32], m: Flat, target: RingPlace) -> RingPlace
+    ensures { λ r. ⌜ r .0 ≡ copyOf (flatsIn xs ys) (now (ring .entry)) m (target .0) ⌝ }
 {
     let c = number_at(ring, target);
-    match find_copy(us, vs, ring, m, c) {
+    match find_copy(xs, ys, ring, m, c) {
         Found::At(k) => RingPlace(k),
         Found::Nowhere => target,
     }
 }
 
 // Where a hole is joined to the ring.
-pub fn bridge(us: &[f32], vs: &[f32], ring: &[u32], hole: &[u32]) -> Bridged
+pub fn bridge(xs: &[f32], ys: &[f32], ring: &[u32], hole: &[u32]) -> Bridged
     requires { ⌜ 0 < length (now hole) ⌝ }
-    ensures { λ r. ⌜ r ≡ bridge (flatsIn us vs) (now (ring .entry)) (now (hole .entry)) ⌝ }
+    ensures { λ r. ⌜ r ≡ bridge (flatsIn xs ys) (now (ring .entry)) (now (hole .entry)) ⌝ }
 {
-    let j = rightmost(us, vs, hole);
-    let m = flat_of(us, vs, hole, j);
-    let Hit::Edge(x, target) = first_hit(us, vs, ring, m) else {
+    let j = rightmost(xs, ys, hole);
+    let m = flat_of(xs, ys, hole, j);
+    let Hit::Edge(x, target) = first_hit(xs, ys, ring, m) else {
         return Bridged::Unjoined;
     };
-    let seen = visible(us, vs, ring, m, Flat { u: x, v: m.v }, target);
-    Bridged::Joined(copy_of(us, vs, ring, m, seen), j)
+    let seen = visible(xs, ys, ring, m, Flat { x, y: m.y }, target);
+    Bridged::Joined(copy_of(xs, ys, ring, m, seen), j)
 }

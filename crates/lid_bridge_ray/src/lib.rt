@@ -11,44 +11,44 @@ use lid_flat::flat_of;
 use lid_ring_place::place_after;
 
 // Of two places of a hole the one further right, and `at` if neither is.
-fn rightmost_step(us: &[f32], vs: &[f32], hole: &[u32], at: RingPlace, best: RingPlace) -> RingPlace
+fn rightmost_step(xs: &[f32], ys: &[f32], hole: &[u32], at: RingPlace, best: RingPlace) -> RingPlace
     requires { ⌜ (at .0 < length (now hole)) × (best .0 < length (now hole)) ⌝ }
-    ensures { λ r. ⌜ (r .0 ≡ rightmostStep (flatsIn us vs) (now (hole .entry)) (at .0) (best .0)) × (r .0 < length (now (hole .entry))) ⌝ }
+    ensures { λ r. ⌜ (r .0 ≡ rightmostStep (flatsIn xs ys) (now (hole .entry)) (at .0) (best .0)) × (r .0 < length (now (hole .entry))) ⌝ }
 {
-    let a = flat_of(us, vs, hole, at);
-    let b = flat_of(us, vs, hole, best);
-    if float_sign::total_less(a.u, b.u) {
+    let a = flat_of(xs, ys, hole, at);
+    let b = flat_of(xs, ys, hole, best);
+    if float_sign::total_less(a.x, b.x) {
         return best;
     }
     at
 }
 
 // The last of a hole's rightmost places.
-pub fn rightmost(us: &[f32], vs: &[f32], hole: &[u32]) -> RingPlace
+pub fn rightmost(xs: &[f32], ys: &[f32], hole: &[u32]) -> RingPlace
     requires { ⌜ 0 < length (now hole) ⌝ }
-    ensures { λ r. ⌜ (r .0 ≡ rightmost (flatsIn us vs) (now (hole .entry))) × (r .0 < length (now (hole .entry))) ⌝ }
+    ensures { λ r. ⌜ (r .0 ≡ rightmost (flatsIn xs ys) (now (hole .entry))) × (r .0 < length (now (hole .entry))) ⌝ }
 {
     let mut best = RingPlace(0);
     let mut k = 0;
     while k < hole.len() {
-        best = rightmost_step(us, vs, hole, RingPlace(k), best);
+        best = rightmost_step(xs, ys, hole, RingPlace(k), best);
         k += 1;
     }
     best
 }
 
-// Whether the edge from a to b does not meet the line through m along u.
+// Whether the edge from a to b does not meet the line through m along x.
 fn passes(m: Flat, a: Flat, b: Flat) -> bool
     ensures { λ r. ⌜ r ≡ passes m a b ⌝ }
 {
-    (a.v == b.v) | (((a.v > m.v) == (b.v > m.v)) & (a.v != m.v) & (b.v != m.v))
+    (a.y == b.y) | (((a.y > m.y) == (b.y > m.y)) & (a.y != m.y) & (b.y != m.y))
 }
 
 // Where the edge from a to b meets that line.
 fn meets(m: Flat, a: Flat, b: Flat) -> f32
     ensures { λ r. ⌜ r ≡ meets m a b ⌝ }
 {
-    a.u + (m.v - a.v) * (b.u - a.u) / (b.v - a.v)
+    a.x + (m.y - a.y) * (b.x - a.x) / (b.y - a.y)
 }
 
 // Whether x is no nearer than what was hit before.
@@ -69,34 +69,34 @@ fn hit_edge(m: Flat, a: Flat, b: Flat, k: RingPlace, j: RingPlace, h: Hit) -> Hi
         return h;
     }
     let x = meets(m, a, b);
-    if (x < m.u) | no_nearer(h, x) {
+    if (x < m.x) | no_nearer(h, x) {
         return h;
     }
-    if a.u > b.u {
+    if a.x > b.x {
         return Hit::Edge(x, k);
     }
     Hit::Edge(x, j)
 }
 
 // The hit after the edge from a place of the ring on.
-fn hit_at(us: &[f32], vs: &[f32], ring: &[u32], m: Flat, at: RingPlace, h: Hit) -> Hit
+fn hit_at(xs: &[f32], ys: &[f32], ring: &[u32], m: Flat, at: RingPlace, h: Hit) -> Hit
     requires { ⌜ at .0 < length (now ring) ⌝ }
-    ensures { λ r. ⌜ r ≡ hitAt (flatsIn us vs) (now (ring .entry)) m (at .0) h ⌝ }
+    ensures { λ r. ⌜ r ≡ hitAt (flatsIn xs ys) (now (ring .entry)) m (at .0) h ⌝ }
 {
     let j = place_after(ring.len(), at);
-    let a = flat_of(us, vs, ring, at);
-    let b = flat_of(us, vs, ring, j);
+    let a = flat_of(xs, ys, ring, at);
+    let b = flat_of(xs, ys, ring, j);
     hit_edge(m, a, b, at, j, h)
 }
 
 // Where the ray from m meets the ring first.
-pub fn first_hit(us: &[f32], vs: &[f32], ring: &[u32], m: Flat) -> Hit
-    ensures { λ r. ⌜ r ≡ firstHit (flatsIn us vs) (now (ring .entry)) m ⌝ }
+pub fn first_hit(xs: &[f32], ys: &[f32], ring: &[u32], m: Flat) -> Hit
+    ensures { λ r. ⌜ r ≡ firstHit (flatsIn xs ys) (now (ring .entry)) m ⌝ }
 {
     let mut h = Hit::Nothing;
     let mut k = 0;
     while k < ring.len() {
-        h = hit_at(us, vs, ring, m, RingPlace(k), h);
+        h = hit_at(xs, ys, ring, m, RingPlace(k), h);
         k += 1;
     }
     h

@@ -25,24 +25,24 @@ use lid_ring_place::remove;
 use lists::Found;
 
 // Whether the corner at a place lies on a straight run.
-fn is_straight(us: &[f32], vs: &[f32], ring: &[u32], at: RingPlace) -> bool
+fn is_straight(xs: &[f32], ys: &[f32], ring: &[u32], at: RingPlace) -> bool
     requires { ⌜ at .0 < length (now ring) ⌝ }
-    ensures { λ r. ⌜ r ≡ isStraight (flatsIn us vs) (now (ring .entry)) (at .0) ⌝ }
+    ensures { λ r. ⌜ r ≡ isStraight (flatsIn xs ys) (now (ring .entry)) (at .0) ⌝ }
 {
     let t = corners_at(ring, at);
-    let a = flat_at(us, vs, t.a);
-    let b = flat_at(us, vs, t.b);
-    let c = flat_at(us, vs, t.c);
+    let a = flat_at(xs, ys, t.a);
+    let b = flat_at(xs, ys, t.b);
+    let c = flat_at(xs, ys, t.c);
     float_sign::abs(turn(a, b, c)) < MIN_AREA
 }
 
 // The first place on a straight run.
-fn find_straight(us: &[f32], vs: &[f32], ring: &[u32]) -> Found
-    ensures { λ r. ⌜ r ≡ first (isStraight (flatsIn us vs) (now (ring .entry))) (length (now (ring .entry))) 0 ⌝ }
+fn find_straight(xs: &[f32], ys: &[f32], ring: &[u32]) -> Found
+    ensures { λ r. ⌜ r ≡ first (isStraight (flatsIn xs ys) (now (ring .entry))) (length (now (ring .entry))) 0 ⌝ }
 {
     let mut i = 0;
     while i < ring.len() {
-        if is_straight(us, vs, ring, RingPlace(i)) {
+        if is_straight(xs, ys, ring, RingPlace(i)) {
             return Found::At(i);
         }
         i += 1;
@@ -51,20 +51,20 @@ fn find_straight(us: &[f32], vs: &[f32], ring: &[u32]) -> Found
 }
 
 // What is done next: an ear is cut off, marked 1, else a corner on a straight run is dropped, marked 2, else clipping ends.
-fn clip_step(us: &[f32], vs: &[f32], ring: &[u32], why: &mut [u32]) -> Step
+fn clip_step(xs: &[f32], ys: &[f32], ring: &[u32], why: &mut [u32]) -> Step
     requires { ⌜ length (now why) ≡ length (now ring) ⌝ }
-    requires { ⌜ Known (flats (now us) (now vs)) (now ring) (now why) ⌝ }
-    ensures { λ r. ⌜ r ≡ clipStep (flatsIn us vs) (now (ring .entry)) ⌝ }
-    ensures { λ _. ⌜ Known (flatsIn us vs) (now (ring .entry)) (now (why .exit)) ⌝ }
-    ensures { λ _. ⌜ now (why .exit) ≡ stepNotes (flatsIn us vs) (now (ring .entry)) (now (why .entry)) ⌝ }
+    requires { ⌜ Known (flats (now xs) (now ys)) (now ring) (now why) ⌝ }
+    ensures { λ r. ⌜ r ≡ clipStep (flatsIn xs ys) (now (ring .entry)) ⌝ }
+    ensures { λ _. ⌜ Known (flatsIn xs ys) (now (ring .entry)) (now (why .exit)) ⌝ }
+    ensures { λ _. ⌜ now (why .exit) ≡ stepNotes (flatsIn xs ys) (now (ring .entry)) (now (why .entry)) ⌝ }
 {
     if ring.len() <= 3 {
         return Step::Stop;
     }
-    if let Found::At(i) = find_ear(us, vs, ring, why) {
+    if let Found::At(i) = find_ear(xs, ys, ring, why) {
         return Step::Cut(1, RingPlace(i));
     }
-    match find_straight(us, vs, ring) {
+    match find_straight(xs, ys, ring) {
         Found::At(i) => Step::Cut(2, RingPlace(i)),
         Found::Nowhere => Step::Stop,
     }
@@ -102,8 +102,8 @@ fn cut(
 // Clips a ring, with room for a note per place. Its entries go to the log from entry n on, and the ears to the triangles from the first; the
 // corners left are the first ones of the ring.
 pub fn clip(
-    us: &[f32],
-    vs: &[f32],
+    xs: &[f32],
+    ys: &[f32],
     ring: &mut [u32],
     why: &mut [u32],
     log: &mut [u32],
@@ -112,14 +112,14 @@ pub fn clip(
 ) -> Clipped
     requires { ⌜ n + length (now ring) < 2 ^ 32 ⌝ }
     requires { ⌜ length (now ring) ≤ length (now why) ⌝ }
-    ensures { λ r. ⌜ RingClipped (flatsIn us vs) ring log n triangles r ⌝ }
+    ensures { λ r. ⌜ RingClipped (flatsIn xs ys) ring log n triangles r ⌝ }
 {
     forget_all(why);
     let mut left = ring.len();
     let mut entries = n;
     let mut count = 0;
     loop {
-        let Step::Cut(mark, at) = clip_step(us, vs, &ring[..left], &mut why[..left]) else {
+        let Step::Cut(mark, at) = clip_step(xs, ys, &ring[..left], &mut why[..left]) else {
             return Clipped {
                 left,
                 entries,

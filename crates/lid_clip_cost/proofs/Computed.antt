@@ -18,7 +18,7 @@ abbrev pub threef : Float
 threef = ofBits binary32 0x40400000
 
 abbrev pub at : Float → Float → Flat
-at x y = record { u = x; v = y }
+at x y = record { x = x; y = y }
 
 abbrev pub square : List Flat
 square = at zerof zerof ∷ at onef zerof ∷ at onef onef ∷ at zerof onef ∷ []

@@ -32,31 +32,31 @@ fn clear(t: Corners, a: Flat, b: Flat, c: Flat, p: CornerNumber, q: Flat) -> boo
 }
 
 // A number of corners of which both slices have the coordinates.
-fn common(us: &[f32], vs: &[f32]) -> usize
-    ensures { λ r. ⌜ (r ≤ length (now (us .entry))) × (r ≤ length (now (vs .entry))) ⌝ }
+fn common(xs: &[f32], ys: &[f32]) -> usize
+    ensures { λ r. ⌜ (r ≤ length (now (xs .entry))) × (r ≤ length (now (ys .entry))) ⌝ }
 {
-    if us.len() < vs.len() {
-        return us.len();
+    if xs.len() < ys.len() {
+        return xs.len();
     }
-    vs.len()
+    ys.len()
 }
 
 // `flat_at` by one test, for the corners below such a number.
-fn flat_in(us: &[f32], vs: &[f32], both: usize, c: CornerNumber) -> Flat
-    requires { ⌜ (both ≤ length (now us)) × (both ≤ length (now vs)) ⌝ }
-    ensures { λ r. ⌜ r ≡ corner (flatsIn us vs) (c .0) ⌝ }
+fn flat_in(xs: &[f32], ys: &[f32], both: usize, c: CornerNumber) -> Flat
+    requires { ⌜ (both ≤ length (now xs)) × (both ≤ length (now ys)) ⌝ }
+    ensures { λ r. ⌜ r ≡ corner (flatsIn xs ys) (c .0) ⌝ }
 {
     let i = c.0 as usize;
     if i < both {
-        return Flat { u: us[i], v: vs[i] };
+        return Flat { x: xs[i], y: ys[i] };
     }
-    flat_at(us, vs, c)
+    flat_at(xs, ys, c)
 }
 
 // The first place from `from` on whose corner stands in the way.
 fn find_block(
-    us: &[f32],
-    vs: &[f32],
+    xs: &[f32],
+    ys: &[f32],
     ring: &[u32],
     t: Corners,
     a: Flat,
@@ -64,13 +64,13 @@ fn find_block(
     c: Flat,
     from: usize,
 ) -> Found
-    ensures { λ r. ⌜ r ≡ firstBlock (flatsIn us vs) t a b c (now (ring .entry)) from ⌝ }
+    ensures { λ r. ⌜ r ≡ firstBlock (flatsIn xs ys) t a b c (now (ring .entry)) from ⌝ }
 {
-    let both = common(us, vs);
+    let both = common(xs, ys);
     let mut k = from;
     while k < ring.len() {
         let p = CornerNumber(ring[k]);
-        if !clear(t, a, b, c, p, flat_in(us, vs, both, p)) {
+        if !clear(t, a, b, c, p, flat_in(xs, ys, both, p)) {
             return Found::At(k);
         }
         k += 1;
@@ -80,8 +80,8 @@ fn find_block(
 
 // What the corners from place `from` on tell of a place at a, b, c.
 fn test_corners(
-    us: &[f32],
-    vs: &[f32],
+    xs: &[f32],
+    ys: &[f32],
     ring: &[u32],
     t: Corners,
     a: Flat,
@@ -89,39 +89,39 @@ fn test_corners(
     c: Flat,
     from: usize,
 ) -> Tested
-    ensures { λ r. ⌜ r ≡ told (behind (firstBlock (flatsIn us vs) t a b c (now (ring .entry)) from)) ⌝ }
+    ensures { λ r. ⌜ r ≡ told (behind (firstBlock (flatsIn xs ys) t a b c (now (ring .entry)) from)) ⌝ }
 {
-    let Found::At(k) = find_block(us, vs, ring, t, a, b, c, from) else {
+    let Found::At(k) = find_block(xs, ys, ring, t, a, b, c, from) else {
         return Tested::Ear;
     };
     Tested::No(failed(k))
 }
 
 // What the tests of a place tell, from the first on that its note q says nothing of.
-fn test_place(us: &[f32], vs: &[f32], ring: &[u32], at: RingPlace, q: u32) -> Tested
+fn test_place(xs: &[f32], ys: &[f32], ring: &[u32], at: RingPlace, q: u32) -> Tested
     requires { ⌜ at .0 < length (now ring) ⌝ }
-    ensures { λ r. ⌜ r ≡ tested (flatsIn us vs) (now (ring .entry)) (at .0) q ⌝ }
+    ensures { λ r. ⌜ r ≡ tested (flatsIn xs ys) (now (ring .entry)) (at .0) q ⌝ }
 {
     let t = corners_at(ring, at);
-    let a = flat_at(us, vs, t.a);
-    let b = flat_at(us, vs, t.b);
-    let c = flat_at(us, vs, t.c);
+    let a = flat_at(xs, ys, t.a);
+    let b = flat_at(xs, ys, t.b);
+    let c = flat_at(xs, ys, t.c);
     if 1 < q {
-        return test_corners(us, vs, ring, t, a, b, c, (q / 2 - 1) as usize);
+        return test_corners(xs, ys, ring, t, a, b, c, (q / 2 - 1) as usize);
     }
     if turn(a, b, c) > 0.0 {
-        return test_corners(us, vs, ring, t, a, b, c, 0);
+        return test_corners(xs, ys, ring, t, a, b, c, 0);
     }
     Tested::No(UNTURNED)
 }
 
 // The first place that is an ear. A place that is noted to fail a test is passed over, and what is found of the others is noted.
-pub fn find_ear(us: &[f32], vs: &[f32], ring: &[u32], why: &mut [u32]) -> Found
+pub fn find_ear(xs: &[f32], ys: &[f32], ring: &[u32], why: &mut [u32]) -> Found
     requires { ⌜ length (now why) ≡ length (now ring) ⌝ }
-    requires { ⌜ Known (flats (now us) (now vs)) (now ring) (now why) ⌝ }
-    ensures { λ r. ⌜ r ≡ first (isEar (flatsIn us vs) (now (ring .entry))) (length (now (ring .entry))) 0 ⌝ }
-    ensures { λ _. ⌜ now (why .exit) ≡ searched (flatsIn us vs) (now (ring .entry)) (length (now (ring .entry))) 0 (now (why .entry)) ⌝ }
-    ensures { λ _. ⌜ Known (flatsIn us vs) (now (ring .entry)) (now (why .exit)) ⌝ }
+    requires { ⌜ Known (flats (now xs) (now ys)) (now ring) (now why) ⌝ }
+    ensures { λ r. ⌜ r ≡ first (isEar (flatsIn xs ys) (now (ring .entry))) (length (now (ring .entry))) 0 ⌝ }
+    ensures { λ _. ⌜ now (why .exit) ≡ searched (flatsIn xs ys) (now (ring .entry)) (length (now (ring .entry))) 0 (now (why .entry)) ⌝ }
+    ensures { λ _. ⌜ Known (flatsIn xs ys) (now (ring .entry)) (now (why .exit)) ⌝ }
 {
     let mut i = 0;
     while i < ring.len() {
@@ -130,7 +130,7 @@ pub fn find_ear(us: &[f32], vs: &[f32], ring: &[u32], why: &mut [u32]) -> Found
             i += 1;
             continue;
         }
-        let Tested::No(w) = test_place(us, vs, ring, RingPlace(i), q) else {
+        let Tested::No(w) = test_place(xs, ys, ring, RingPlace(i), q) else {
             return Found::At(i);
         };
         why[i] = w;

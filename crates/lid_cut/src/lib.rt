@@ -31,10 +31,10 @@ fn put_left(ring: &[u32], log: &mut [u32], n: u32)
 }
 
 // Writes the triangle of the corners left, if they are three that turn left. The result is how many triangles there then are.
-fn put_last(us: &[f32], vs: &[f32], ring: &[u32], triangles: &mut [u32], count: u32) -> u32
+fn put_last(xs: &[f32], ys: &[f32], ring: &[u32], triangles: &mut [u32], count: u32) -> u32
     requires { ⌜ count + 1 < 2 ^ 32 ⌝ }
-    ensures { λ r. ⌜ r ≡ count + length (lastTriangle (flatsIn us vs) (now (ring .entry))) ⌝ }
-    ensures { λ _. ⌜ now (triangles .exit) ≡ trianglesWith (now (triangles .entry)) count (lastTriangle (flatsIn us vs) (now (ring .entry))) ⌝ }
+    ensures { λ r. ⌜ r ≡ count + length (lastTriangle (flatsIn xs ys) (now (ring .entry))) ⌝ }
+    ensures { λ _. ⌜ now (triangles .exit) ≡ trianglesWith (now (triangles .entry)) count (lastTriangle (flatsIn xs ys) (now (ring .entry))) ⌝ }
 {
     if ring.len() != 3 {
         return count;
@@ -42,9 +42,9 @@ fn put_last(us: &[f32], vs: &[f32], ring: &[u32], triangles: &mut [u32], count: 
     let a = ring[0];
     let b = ring[1];
     let c = ring[2];
-    let u = flat_at(us, vs, CornerNumber(a));
-    let v = flat_at(us, vs, CornerNumber(b));
-    let w = flat_at(us, vs, CornerNumber(c));
+    let u = flat_at(xs, ys, CornerNumber(a));
+    let v = flat_at(xs, ys, CornerNumber(b));
+    let w = flat_at(xs, ys, CornerNumber(c));
     if turn(u, v, w) > 0.0 {
         put_triangle(triangles, count, a, b, c);
         return count + 1;
@@ -54,8 +54,8 @@ fn put_last(us: &[f32], vs: &[f32], ring: &[u32], triangles: &mut [u32], count: 
 
 // Clips a ring, with room for a note per place, from entry n of the log on, and writes what is left.
 pub fn cut_ring(
-    us: &[f32],
-    vs: &[f32],
+    xs: &[f32],
+    ys: &[f32],
     ring: &mut [u32],
     why: &mut [u32],
     log: &mut [u32],
@@ -64,12 +64,12 @@ pub fn cut_ring(
 ) -> LidCounts
     requires { ⌜ n + length (now ring) + 1 < 2 ^ 32 ⌝ }
     requires { ⌜ length (now ring) ≤ length (now why) ⌝ }
-    ensures { λ r. ⌜ LidWritten (ringLid (flatsIn us vs) (now (ring .entry))) log n triangles r ⌝ }
+    ensures { λ r. ⌜ LidWritten (ringLid (flatsIn xs ys) (now (ring .entry))) log n triangles r ⌝ }
 {
-    let c = clip(us, vs, ring, why, log, n, triangles);
+    let c = clip(xs, ys, ring, why, log, n, triangles);
     let left = c.left;
     put_left(&ring[..left], log, c.entries);
-    let count = put_last(us, vs, &ring[..left], triangles, c.triangles);
+    let count = put_last(xs, ys, &ring[..left], triangles, c.triangles);
     LidCounts {
         entries: c.entries + left as u32,
         triangles: count,

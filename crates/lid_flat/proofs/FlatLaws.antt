@@ -13,23 +13,23 @@ use Rattle.lid.specs.declared.Flat.{Flat}
 use Rattle.lid.specs.Rings.{flats, corner, flat0}
 
 abbrev flat : Float → Float → Flat
-flat u v = record { u = u; v = v }
+flat x y = record { x = x; y = y }
 
-module _ (us vs : List Float) (i : ℕ) where
-  corner-in : i < length us → corner (flats us vs) i ≡ flat (getD us i zerof) (getD vs i zerof)
+module _ (xs ys : List Float) (i : ℕ) where
+  corner-in : i < length xs → corner (flats xs ys) i ≡ flat (getD xs i zerof) (getD ys i zerof)
   unfolding corner flats
   corner-in h =
-      getD-list (λ j. flat (getD us j zerof) (getD vs j zerof)) (length us) 0 i flat0 h
-      ∙ ap (λ (j : ℕ). flat (getD us j zerof) (getD vs j zerof)) (zero-add i)
+      getD-list (λ j. flat (getD xs j zerof) (getD ys j zerof)) (length xs) 0 i flat0 h
+      ∙ ap (λ (j : ℕ). flat (getD xs j zerof) (getD ys j zerof)) (zero-add i)
 
-  pub flat-both : i < length us → i < length vs → flat (getD us i nan) (getD vs i nan) ≡ corner (flats us vs) i
-  flat-both h k = ap₂ flat (getD-any us i nan zerof h) (getD-any vs i nan zerof k) ∙ sym (corner-in h)
+  pub flat-both : i < length xs → i < length ys → flat (getD xs i nan) (getD ys i nan) ≡ corner (flats xs ys) i
+  flat-both h k = ap₂ flat (getD-any xs i nan zerof h) (getD-any ys i nan zerof k) ∙ sym (corner-in h)
 
-  pub flat-first : i < length us → length vs ≤ i → flat (getD us i nan) zerof ≡ corner (flats us vs) i
-  flat-first h k = ap₂ flat (getD-any us i nan zerof h) (sym (List·getD-eq-default vs zerof k)) ∙ sym (corner-in h)
+  pub flat-first : i < length xs → length ys ≤ i → flat (getD xs i nan) zerof ≡ corner (flats xs ys) i
+  flat-first h k = ap₂ flat (getD-any xs i nan zerof h) (sym (List·getD-eq-default ys zerof k)) ∙ sym (corner-in h)
 
-  pub flat-none : length us ≤ i → flat0 ≡ corner (flats us vs) i
+  pub flat-none : length xs ≤ i → flat0 ≡ corner (flats xs ys) i
   unfolding corner flats
   flat-none h =
-      let f : ℕ → Flat = λ j. flat (getD us j zerof) (getD vs j zerof) in
-      sym (List·getD-eq-default (list f (length us) 0) flat0 (omega (arith, length-list f (length us) 0)))
+      let f : ℕ → Flat = λ j. flat (getD xs j zerof) (getD ys j zerof) in
+      sym (List·getD-eq-default (list f (length xs) 0) flat0 (omega (arith, length-list f (length xs) 0)))

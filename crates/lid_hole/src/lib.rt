@@ -24,8 +24,8 @@ pub fn hole_start(outer: u32, counts: &[u32], g: usize) -> u32
 
 // Writes hole g, turned, to the first places of `hole`. Says whether it is too small.
 pub fn write_hole(
-    us: &[f32],
-    vs: &[f32],
+    xs: &[f32],
+    ys: &[f32],
     outer: u32,
     counts: &[u32],
     hole: &mut [u32],
@@ -34,10 +34,10 @@ pub fn write_hole(
     requires { ⌜ g < length (now counts) ⌝ }
     requires { ⌜ cornerTotal outer (now counts) < 2 ^ 32 ⌝ }
     requires { ⌜ getD (now counts) g 0 ≤ length (now hole) ⌝ }
-    ensures { λ r. ⌜ r ≡ tooSmall (flatsIn us vs) (holeCorners outer (now (counts .entry)) g) ⌝ }
-    ensures { λ _. ⌜ take (getD (now (counts .entry)) g 0) (now (hole .exit)) ≡ holeRing (flatsIn us vs) outer (now (counts .entry)) g ⌝ }
+    ensures { λ r. ⌜ r ≡ tooSmall (flatsIn xs ys) (holeCorners outer (now (counts .entry)) g) ⌝ }
+    ensures { λ _. ⌜ take (getD (now (counts .entry)) g 0) (now (hole .exit)) ≡ holeRing (flatsIn xs ys) outer (now (counts .entry)) g ⌝ }
 {
     let h = counts[g] as usize;
     let from = hole_start(outer, counts, g);
-    write_ring(us, vs, &mut hole[..h], from, false)
+    write_ring(xs, ys, &mut hole[..h], from, false)
 }

@@ -13,8 +13,8 @@ use lid_hole::write_hole;
 use lid_log::put_entry;
 
 fn survey_hole(
-    us: &[f32],
-    vs: &[f32],
+    xs: &[f32],
+    ys: &[f32],
     outer: u32,
     counts: &[u32],
     hole: &mut [u32],
@@ -23,12 +23,12 @@ fn survey_hole(
     requires { ⌜ g < length (now counts) ⌝ }
     requires { ⌜ cornerTotal outer (now counts) < 2 ^ 32 ⌝ }
     requires { ⌜ getD (now counts) g 0 ≤ length (now hole) ⌝ }
-    ensures { λ r. ⌜ r .right ≡ right (flatsIn us vs) (holeRing (flatsIn us vs) outer (now (counts .entry)) g) ⌝ }
-    ensures { λ r. ⌜ r .small ≡ tooSmall (flatsIn us vs) (holeCorners outer (now (counts .entry)) g) ⌝ }
+    ensures { λ r. ⌜ r .right ≡ right (flatsIn xs ys) (holeRing (flatsIn xs ys) outer (now (counts .entry)) g) ⌝ }
+    ensures { λ r. ⌜ r .small ≡ tooSmall (flatsIn xs ys) (holeCorners outer (now (counts .entry)) g) ⌝ }
 {
-    let small = write_hole(us, vs, outer, counts, hole, g);
+    let small = write_hole(xs, ys, outer, counts, hole, g);
     let h = counts[g] as usize;
-    let right = right(us, vs, &hole[..h]);
+    let right = right(xs, ys, &hole[..h]);
     Surveyed { right, small }
 }
 
@@ -48,8 +48,8 @@ fn put_skip(small: bool, log: &mut [u32], n: u32, g: u32) -> u32
 // Surveys all holes: what is found of them stands in the first places of `rights` and `small`, and each that is skipped has its entry, from
 // the first of the log on. The result is how many those are.
 pub fn survey(
-    us: &[f32],
-    vs: &[f32],
+    xs: &[f32],
+    ys: &[f32],
     outer: u32,
     counts: &[u32],
     hole: &mut [u32],
@@ -60,15 +60,15 @@ pub fn survey(
     requires { ⌜ (cornerTotal outer (now counts) < 2 ^ 32) × (length (now counts) < 2 ^ 31) ⌝ }
     requires { ⌜ sumOf (λ n. n) (now counts) ≤ length (now hole) ⌝ }
     requires { ⌜ (length (now counts) ≤ length (now rights)) × (length (now counts) ≤ length (now small)) ⌝ }
-    ensures { λ _. ⌜ take (length (now (counts .entry))) (now (rights .exit)) ≡ rightsOf (flatsIn us vs) outer (now (counts .entry)) ⌝ }
-    ensures { λ _. ⌜ take (length (now (counts .entry))) (now (small .exit)) ≡ smallOf (flatsIn us vs) outer (now (counts .entry)) ⌝ }
-    ensures { λ r. ⌜ r ≡ length (allSkips (flatsIn us vs) outer (now (counts .entry))) ⌝ }
-    ensures { λ _. ⌜ now (log .exit) ≡ logWith (now (log .entry)) 0 (allSkips (flatsIn us vs) outer (now (counts .entry))) ⌝ }
+    ensures { λ _. ⌜ take (length (now (counts .entry))) (now (rights .exit)) ≡ rightsOf (flatsIn xs ys) outer (now (counts .entry)) ⌝ }
+    ensures { λ _. ⌜ take (length (now (counts .entry))) (now (small .exit)) ≡ smallOf (flatsIn xs ys) outer (now (counts .entry)) ⌝ }
+    ensures { λ r. ⌜ r ≡ length (allSkips (flatsIn xs ys) outer (now (counts .entry))) ⌝ }
+    ensures { λ _. ⌜ now (log .exit) ≡ logWith (now (log .entry)) 0 (allSkips (flatsIn xs ys) outer (now (counts .entry))) ⌝ }
 {
     let mut n = 0;
     let mut g = 0;
     while g < counts.len() {
-        let s = survey_hole(us, vs, outer, counts, hole, g);
+        let s = survey_hole(xs, ys, outer, counts, hole, g);
         rights[g] = s.right;
         small[g] = s.small;
         n = put_skip(s.small, log, n, g as u32);

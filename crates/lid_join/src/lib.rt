@@ -14,8 +14,8 @@ use lid_splice::splice;
 
 // Joins a hole to the ring of m places. The result is how many places the ring then has.
 fn join(
-    us: &[f32],
-    vs: &[f32],
+    xs: &[f32],
+    ys: &[f32],
     ring: &mut [u32],
     m: usize,
     hole: &[u32],
@@ -24,9 +24,9 @@ fn join(
     g: u32,
 ) -> usize
     requires { ⌜ (0 < length (now hole)) × (m + length (now hole) + 2 ≤ length (now ring)) × (length (now ring) < 2 ^ 32) ⌝ }
-    ensures { λ r. ⌜ HoleJoined (flatsIn us vs) (now (hole .entry)) g ring m log n r ⌝ }
+    ensures { λ r. ⌜ HoleJoined (flatsIn xs ys) (now (hole .entry)) g ring m log n r ⌝ }
 {
-    match bridge(us, vs, &ring[..m], hole) {
+    match bridge(xs, ys, &ring[..m], hole) {
         Bridged::Joined(t, j) => {
             put_entry(log, n, 4, g, t.0 as u32, j.0 as u32);
             let e = m + hole.len() + 2;
@@ -42,8 +42,8 @@ fn join(
 
 // Joins hole g, whose corners are first written to `hole`.
 fn join_hole(
-    us: &[f32],
-    vs: &[f32],
+    xs: &[f32],
+    ys: &[f32],
     outer: u32,
     counts: &[u32],
     ring: &mut [u32],
@@ -56,18 +56,18 @@ fn join_hole(
     requires { ⌜ cornerTotal outer (now counts) < 2 ^ 32 ⌝ }
     requires { ⌜ Joinable (now counts) (length (now hole)) g ⌝ }
     requires { ⌜ (m + getD (now counts) g 0 + 2 ≤ length (now ring)) × (length (now ring) < 2 ^ 32) ⌝ }
-    ensures { λ r. ⌜ HoleJoined (flatsIn us vs) (holeRing (flatsIn us vs) outer (now (counts .entry)) g) g ring m log n r ⌝ }
+    ensures { λ r. ⌜ HoleJoined (flatsIn xs ys) (holeRing (flatsIn xs ys) outer (now (counts .entry)) g) g ring m log n r ⌝ }
 {
     let k = g as usize;
-    write_hole(us, vs, outer, counts, hole, k);
+    write_hole(xs, ys, outer, counts, hole, k);
     let h = counts[k] as usize;
-    join(us, vs, ring, m, &hole[..h], log, n, g)
+    join(xs, ys, ring, m, &hole[..h], log, n, g)
 }
 
 // Joins the holes of an order to the ring of m places, from entry n of the log on. The result is how many places the ring then has.
 pub fn join_holes(
-    us: &[f32],
-    vs: &[f32],
+    xs: &[f32],
+    ys: &[f32],
     outer: u32,
     counts: &[u32],
     order: &[u32],
@@ -80,15 +80,15 @@ pub fn join_holes(
     requires { ⌜ cornerTotal outer (now counts) < 2 ^ 32 ⌝ }
     requires { ⌜ Each (Joinable (now counts) (length (now hole))) (now order) ⌝ }
     requires { ⌜ (m + placesJoined (now counts) (now order) ≤ length (now ring)) × (length (now ring) < 2 ^ 32) × (n + length (now order) < 2 ^ 32) ⌝ }
-    ensures { λ r. ⌜ HolesJoined (flatsIn us vs) (holesNumbered (flatsIn us vs) outer (now (counts .entry)) (now (order .entry))) ring m log n r ⌝ }
+    ensures { λ r. ⌜ HolesJoined (flatsIn xs ys) (holesNumbered (flatsIn xs ys) outer (now (counts .entry)) (now (order .entry))) ring m log n r ⌝ }
 {
     let mut places = m;
     let mut entries = n;
     let mut p = 0;
     while p < order.len() {
         places = join_hole(
-            us,
-            vs,
+            xs,
+            ys,
             outer,
             counts,
             ring,

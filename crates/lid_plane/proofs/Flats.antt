@@ -113,20 +113,20 @@ axis-near lid n = go (lt halff (magnitude (lid .z)))
     go false = unit-near _ zeroV (nearV-up (less-near 13 0 unitZ-near (scale-near 12 0 n (dot-within 2 0 6 0 unitZ-near n tt tt tt) tt) tt) tt) (nearV-up zero-near tt)
 
 pub record NearF (f : Flat) : Type 0 where
-  pub u : Within 48 24 (f .u)
-  pub v : Within 48 24 (f .v)
+  pub x : Within 48 24 (f .x)
+  pub y : Within 48 24 (f .y)
 
 pub flatten-near : (lid : Vector) (tops : List Point) → NearV 2 0 lid → Each (NearP 1 24) tops → Each NearF (flatten lid tops)
 unfolding flatten
 flatten-near lid tops n m =
     let e1 = axis-near lid n in
     let e2 = cross-near 4 0 8 0 n e1 tt tt in
-    each-map (NearP 1 24) NearF _ (λ p k. record { u = dot-within 4 24 48 24 (diff-near 2 24 k (at-near tops m 0) tt) e1 tt tt tt; v = dot-within 16 24 48 24 (diff-near 2 24 k (at-near tops m 0) tt) e2 tt tt tt }) tops m
+    each-map (NearP 1 24) NearF _ (λ p k. record { x = dot-within 4 24 48 24 (diff-near 2 24 k (at-near tops m 0) tt) e1 tt tt tt; y = dot-within 16 24 48 24 (diff-near 2 24 k (at-near tops m 0) tt) e2 tt tt tt }) tops m
 
 -- ---- turns, as the Rust rounds them
 flat-at : (fs : List Flat) → Each NearF fs → (i : ℕ) → NearF (corner fs i)
 unfolding corner ofBits
-flat-at fs n i = each-getD NearF fs flat0 (record { u = record { known = tt; small = lit≤ tt }; v = record { known = tt; small = lit≤ tt } }) n i
+flat-at fs n i = each-getD NearF fs flat0 (record { x = record { known = tt; small = lit≤ tt }; y = record { known = tt; small = lit≤ tt } }) n i
 
 pub turn-within : (fs : List Flat) → Each NearF fs → (a b c : ℕ) → Within 18432 48 (turnOf fs a b c)
 unfolding turnOf turn
@@ -136,5 +136,5 @@ turn-within fs n a b c =
     let r = flat-at fs n c in
     let f = binary32 in
     sub-within f 18432 48
-    (mul-within f 9216 48 (sub-within f 96 24 (q .u) (p .u) tt) (sub-within f 96 24 (r .v) (p .v) tt) tt)
-    (mul-within f 9216 48 (sub-within f 96 24 (q .v) (p .v) tt) (sub-within f 96 24 (r .u) (p .u) tt) tt) tt
+    (mul-within f 9216 48 (sub-within f 96 24 (q .x) (p .x) tt) (sub-within f 96 24 (r .y) (p .y) tt) tt)
+    (mul-within f 9216 48 (sub-within f 96 24 (q .y) (p .y) tt) (sub-within f 96 24 (r .x) (p .x) tt) tt) tt

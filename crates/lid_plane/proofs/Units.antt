@@ -78,13 +78,13 @@ dot-fits : (a b : Vector) → T (fits binary32 (dot a b))
 unfolding dot
 dot-fits a b = add-fits binary32 (add binary32 (mul binary32 (a .x) (b .x)) (mul binary32 (a .y) (b .y))) (mul binary32 (a .z) (b .z))
 
-mapped-fits : (f : Point → Flat) → ((p : Point) → T (fits binary32 (f p .u)) × T (fits binary32 (f p .v))) → (ps : List Point) (i : ℕ)
-    → T (fits binary32 (getD (map f ps) i flat0 .u)) × T (fits binary32 (getD (map f ps) i flat0 .v))
+mapped-fits : (f : Point → Flat) → ((p : Point) → T (fits binary32 (f p .x)) × T (fits binary32 (f p .y))) → (ps : List Point) (i : ℕ)
+    → T (fits binary32 (getD (map f ps) i flat0 .x)) × T (fits binary32 (getD (map f ps) i flat0 .y))
 unfolding fits lib.Ieee.ofBits
 mapped-fits f h [] i = (tt, tt)
 mapped-fits f h (p ∷ ps) zero = h p
 mapped-fits f h (p ∷ ps) (suc i) = mapped-fits f h ps i
 
-pub flat-fits : (lid : Vector) (tops : List Point) (i : ℕ) → T (fits binary32 (corner (flatten lid tops) i .u)) × T (fits binary32 (corner (flatten lid tops) i .v))
+pub flat-fits : (lid : Vector) (tops : List Point) (i : ℕ) → T (fits binary32 (corner (flatten lid tops) i .x)) × T (fits binary32 (corner (flatten lid tops) i .y))
 unfolding flatten corner
 flat-fits lid tops i = mapped-fits _ (λ p. (dot-fits (diff p (getD tops 0 origin)) (firstAxis lid), dot-fits (diff p (getD tops 0 origin)) (cross lid (firstAxis lid)))) tops i

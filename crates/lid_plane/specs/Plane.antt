@@ -56,4 +56,4 @@ flatten lid tops =
     let o = getD tops 0 origin in
     let e1 = firstAxis lid in
     let e2 = cross lid e1 in
-    map (λ p. record { u = dot (diff p o) e1; v = dot (diff p o) e2 }) tops
+    map (λ p. record { x = dot (diff p o) e1; y = dot (diff p o) e2 }) tops

@@ -26,4 +26,4 @@ axisAcross lid = cond (lt halff (magnitude (lid .z))) unitX unitZ
 
 -- a top as `flatten` has it
 abbrev pub flatOn : Point → Vector → Vector → Point → Flat
-flatOn first e1 e2 p = record { u = dot (diff p first) e1; v = dot (diff p first) e2 }
+flatOn first e1 e2 p = record { x = dot (diff p first) e1; y = dot (diff p first) e2 }

@@ -46,7 +46,7 @@ pub fn flat_corner(first: Point, e1: Vector, e2: Vector, p: Point) -> Flat
 {
     let d = p.sub(first);
     Flat {
-        u: d.dot(e1),
-        v: d.dot(e2),
+        x: d.dot(e1),
+        y: d.dot(e2),
     }
 }

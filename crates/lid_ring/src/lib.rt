@@ -38,13 +38,13 @@ fn fill_down(ring: &mut [u32], to: u32)
 }
 
 // Writes the ring of the corners from `from` on, turned as the outer ring or as a hole. Says whether it is too small.
-pub fn write_ring(us: &[f32], vs: &[f32], ring: &mut [u32], from: u32, outer: bool) -> bool
+pub fn write_ring(xs: &[f32], ys: &[f32], ring: &mut [u32], from: u32, outer: bool) -> bool
     requires { ⌜ from + length (now ring) < 2 ^ 32 ⌝ }
-    ensures { λ r. ⌜ r ≡ tooSmall (flatsIn us vs) (list (λ i. i) (length (now (ring .entry))) from) ⌝ }
-    ensures { λ r. ⌜ now (ring .exit) ≡ turned outer (flatsIn us vs) (list (λ i. i) (length (now (ring .entry))) from) ⌝ }
+    ensures { λ r. ⌜ r ≡ tooSmall (flatsIn xs ys) (list (λ i. i) (length (now (ring .entry))) from) ⌝ }
+    ensures { λ r. ⌜ now (ring .exit) ≡ turned outer (flatsIn xs ys) (list (λ i. i) (length (now (ring .entry))) from) ⌝ }
 {
     fill(ring, from);
-    let a = area(us, vs, ring);
+    let a = area(xs, ys, ring);
     let small = (ring.len() < 3) | (float_sign::abs(a) < MIN_AREA);
     if (a < 0.0) == outer {
         let to = from + ring.len() as u32;

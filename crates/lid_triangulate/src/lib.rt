@@ -20,8 +20,8 @@ use lid_ring::write_ring;
 
 // Writes the entries of the holes that are skipped, and puts the others in joining order.
 fn prepare(
-    us: &[f32],
-    vs: &[f32],
+    xs: &[f32],
+    ys: &[f32],
     outer: u32,
     counts: &[u32],
     hole: &mut [u32],
@@ -31,11 +31,11 @@ fn prepare(
     requires { ⌜ (cornerTotal outer (now counts) < 2 ^ 32) × (length (now counts) ≤ 32) ⌝ }
     requires { ⌜ sumOf (λ n. n) (now counts) ≤ length (now hole) ⌝ }
     requires { ⌜ length (now counts) ≤ length (now order) ⌝ }
-    ensures { λ r. ⌜ HolesPrepared (flatsIn us vs) outer (now (counts .entry)) (length (now (hole .entry))) order log r ⌝ }
+    ensures { λ r. ⌜ HolesPrepared (flatsIn xs ys) outer (now (counts .entry)) (length (now (hole .entry))) order log r ⌝ }
 {
     let mut rights = [0.0; 32];
     let mut small = [false; 32];
-    let entries = survey(us, vs, outer, counts, hole, &mut rights, &mut small, log);
+    let entries = survey(xs, ys, outer, counts, hole, &mut rights, &mut small, log);
     let n = counts.len();
     let holes = order_holes(&rights[..n], &small[..n], order);
     Prepared { entries, holes }
@@ -43,8 +43,8 @@ fn prepare(
 
 // Cuts a lid whose outer ring stands turned in the first places of `ring`.
 fn cut_open(
-    us: &[f32],
-    vs: &[f32],
+    xs: &[f32],
+    ys: &[f32],
     outer: u32,
     counts: &[u32],
     ring: &mut [u32],
@@ -53,15 +53,15 @@ fn cut_open(
     triangles: &mut [u32],
 ) -> LidCounts
     requires { ⌜ BuffersFit outer (now counts) (length (now ring)) (length (now hole)) ⌝ }
-    requires { ⌜ take outer (now ring) ≡ turnOuter (flats (now us) (now vs)) (list (λ i. i) outer 0) ⌝ }
-    ensures { λ r. ⌜ LidWritten (lidOpen (flatsIn us vs) outer (now (counts .entry))) log 0 triangles r ⌝ }
+    requires { ⌜ take outer (now ring) ≡ turnOuter (flats (now xs) (now ys)) (list (λ i. i) outer 0) ⌝ }
+    ensures { λ r. ⌜ LidWritten (lidOpen (flatsIn xs ys) outer (now (counts .entry))) log 0 triangles r ⌝ }
 {
     let mut order = [0; 32];
-    let p = prepare(us, vs, outer, counts, hole, &mut order, log);
+    let p = prepare(xs, ys, outer, counts, hole, &mut order, log);
     let c = p.holes;
     let m = join_holes(
-        us,
-        vs,
+        xs,
+        ys,
         outer,
         counts,
         &order[..c],
@@ -72,8 +72,8 @@ fn cut_open(
         p.entries,
     );
     cut_ring(
-        us,
-        vs,
+        xs,
+        ys,
         &mut ring[..m],
         hole,
         log,
@@ -84,8 +84,8 @@ fn cut_open(
 
 // Cuts a lid, as `triangulate`, with room to work in.
 fn cut_lid(
-    us: &[f32],
-    vs: &[f32],
+    xs: &[f32],
+    ys: &[f32],
     outer: u32,
     counts: &[u32],
     ring: &mut [u32],
@@ -94,40 +94,40 @@ fn cut_lid(
     triangles: &mut [u32],
 ) -> LidCounts
     requires { ⌜ BuffersFit outer (now counts) (length (now ring)) (length (now hole)) ⌝ }
-    ensures { λ r. ⌜ LidWritten (lidOf (flatsIn us vs) outer (now (counts .entry))) log 0 triangles r ⌝ }
+    ensures { λ r. ⌜ LidWritten (lidOf (flatsIn xs ys) outer (now (counts .entry))) log 0 triangles r ⌝ }
 {
     let m = outer as usize;
-    if write_ring(us, vs, &mut ring[..m], 0, true) {
+    if write_ring(xs, ys, &mut ring[..m], 0, true) {
         put_entry(log, 0, 7, 0, 0, 0);
         return LidCounts {
             entries: 1,
             triangles: 0,
         };
     }
-    cut_open(us, vs, outer, counts, ring, hole, log, triangles)
+    cut_open(xs, ys, outer, counts, ring, hole, log, triangles)
 }
 
-// Cuts the lid of an outline's flat corners, whose coordinates are `us` and `vs`: `outer` corners and then those of the holes, of the given
+// Cuts the lid of an outline's flat corners, whose coordinates are `xs` and `ys`: `outer` corners and then those of the holes, of the given
 // counts. Its log goes to the front of `log`, and its triangles, three corner numbers each, to the front of `triangles`.
 pub fn triangulate(
-    us: &[f32],
-    vs: &[f32],
+    xs: &[f32],
+    ys: &[f32],
     outer: u32,
     counts: &[u32],
     log: &mut [u32],
     triangles: &mut [u32],
 ) -> LidCounts
     requires { ⌜ (cornerTotal outer (now counts) ≤ 512) × (length (now counts) ≤ 32) ⌝ }
-    ensures { λ r. ⌜ LidWritten (lidOf (flatsIn us vs) outer (now (counts .entry))) log 0 triangles r ⌝ }
+    ensures { λ r. ⌜ LidWritten (lidOf (flatsIn xs ys) outer (now (counts .entry))) log 0 triangles r ⌝ }
 {
     let n = counts.len();
     // Most lids have few corners, and small arrays are cleared sooner.
     if hole_start(outer, counts, n) as usize + 2 * n <= 32 {
         let mut ring = [0; 32];
         let mut hole = [0; 32];
-        return cut_lid(us, vs, outer, counts, &mut ring, &mut hole, log, triangles);
+        return cut_lid(xs, ys, outer, counts, &mut ring, &mut hole, log, triangles);
     }
     let mut ring = [0; 576];
     let mut hole = [0; 576];
-    cut_lid(us, vs, outer, counts, &mut ring, &mut hole, log, triangles)
+    cut_lid(xs, ys, outer, counts, &mut ring, &mut hole, log, triangles)
 }

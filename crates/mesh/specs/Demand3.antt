@@ -69,7 +69,7 @@ EndToEnd vertexEnd indexEnd v i (s ∷ ss) = (s .vertexStart ≡ v) × (s .index
 
 -- the flat corners are numbers, so that nothing of them is lost in whole multiples of 2 ^ -149
 abbrev pub FlatsKnown : List Flat → Type 0
-FlatsKnown fs = Each (λ (f : Flat). (isFinite (f .u) ≡ true) × (isFinite (f .v) ≡ true)) fs
+FlatsKnown fs = Each (λ (f : Flat). (isFinite (f .x) ≡ true) × (isFinite (f .y) ≡ true)) fs
 
 -- of an object and its entries
 abbrev pub AreasHold : Shape → List Entry → Type 0

@@ -31,26 +31,26 @@ use Rattle.shape_outline_corners.proofs.CornerLaws.{map-list, tops-points}
 -- ---- corners laid flat
 
 -- coordinates in two lists, the second from the front of one, are the flat corners
-pub flats-list : (f : ℕ → Flat) (n : ℕ) (vs : List Float) → take n vs ≡ list (λ j. f j .v) n 0 → flats (list (λ j. f j .u) n 0) vs ≡ list f n 0
+pub flats-list : (f : ℕ → Flat) (n : ℕ) (ys : List Float) → take n ys ≡ list (λ j. f j .y) n 0 → flats (list (λ j. f j .x) n 0) ys ≡ list f n 0
 unfolding flats
-flats-list f n vs e =
-    ext-getD flat0 (list pair (length us) 0) (list f n 0) (length-list pair (length us) 0 ∙ length-list (λ j. f j .u) n 0 ∙ sym (length-list f n 0))
-    (λ i h. same i (omega (arith, h, length-list pair (length us) 0, length-list (λ j. f j .u) n 0)))
+flats-list f n ys e =
+    ext-getD flat0 (list pair (length xs) 0) (list f n 0) (length-list pair (length xs) 0 ∙ length-list (λ j. f j .x) n 0 ∙ sym (length-list f n 0))
+    (λ i h. same i (omega (arith, h, length-list pair (length xs) 0, length-list (λ j. f j .x) n 0)))
   where
-    us : List Float
-    us = list (λ j. f j .u) n 0
+    xs : List Float
+    xs = list (λ j. f j .x) n 0
 
     pair : ℕ → Flat
-    pair i = record { u = getD us i zerof; v = getD vs i zerof }
+    pair i = record { x = getD xs i zerof; y = getD ys i zerof }
 
-    second : (i : ℕ) → i < n → getD vs i zerof ≡ f (0 + i) .v
-    second i h = sym (getD-take n vs i zerof h) ∙ ap (λ (l : List Float). getD l i zerof) e ∙ getD-list (λ j. f j .v) n 0 i zerof h
+    second : (i : ℕ) → i < n → getD ys i zerof ≡ f (0 + i) .y
+    second i h = sym (getD-take n ys i zerof h) ∙ ap (λ (l : List Float). getD l i zerof) e ∙ getD-list (λ j. f j .y) n 0 i zerof h
 
-    same : (i : ℕ) → i < n → getD (list pair (length us) 0) i flat0 ≡ getD (list f n 0) i flat0
+    same : (i : ℕ) → i < n → getD (list pair (length xs) 0) i flat0 ≡ getD (list f n 0) i flat0
     same i h =
-        getD-list pair (length us) 0 i flat0 (omega (arith, length-list (λ j. f j .u) n 0))
+        getD-list pair (length xs) 0 i flat0 (omega (arith, length-list (λ j. f j .x) n 0))
         ∙ ap pair (zero-add i)
-        ∙ (λ z. record { u = (getD-list (λ j. f j .u) n 0 i zerof h) z; v = (second i h) z })
+        ∙ (λ z. record { x = (getD-list (λ j. f j .x) n 0 i zerof h) z; y = (second i h) z })
         ∙ sym (getD-list f n 0 i flat0 h)
 
 -- point k at `at`, laid flat
@@ -64,12 +64,12 @@ flatten-points s (suc n) at lid =
     ap (λ (p : ℕ). list (λ k. flatOn (pointAt s p) (firstAxis lid) (cross lid (firstAxis lid)) (pointAt s (at + 24 * k))) (suc n) 0) (sym (add-zero at))
     ∙ sym (map-list (flatOn (pointAt s (at + 24 * 0)) (firstAxis lid) (cross lid (firstAxis lid))) (λ k. pointAt s (at + 24 * k)) (suc n) 0)
 
-pub laid-flat : (s : List ℕ) (n at : ℕ) (lid : Vector) (e1 e2 : Vector) (us vs : List Float) → e1 ≡ firstAxis lid → e2 ≡ cross lid e1
-    → us ≡ list (λ j. flatOn (pointAt s at) e1 e2 (pointAt s (at + 24 * j)) .u) n 0 → take n vs ≡ list (λ j. flatOn (pointAt s at) e1 e2 (pointAt s (at + 24 * j)) .v) n 0
-    → flats us vs ≡ flatten lid (pointsAt s n at)
-laid-flat s n at lid e1 e2 us vs q r a b =
-    ap (λ (l : List Float). flats l vs) a
-    ∙ flats-list (λ j. flatOn (pointAt s at) e1 e2 (pointAt s (at + 24 * j))) n vs b
+pub laid-flat : (s : List ℕ) (n at : ℕ) (lid : Vector) (e1 e2 : Vector) (xs ys : List Float) → e1 ≡ firstAxis lid → e2 ≡ cross lid e1
+    → xs ≡ list (λ j. flatOn (pointAt s at) e1 e2 (pointAt s (at + 24 * j)) .x) n 0 → take n ys ≡ list (λ j. flatOn (pointAt s at) e1 e2 (pointAt s (at + 24 * j)) .y) n 0
+    → flats xs ys ≡ flatten lid (pointsAt s n at)
+laid-flat s n at lid e1 e2 xs ys q r a b =
+    ap (λ (l : List Float). flats l ys) a
+    ∙ flats-list (λ j. flatOn (pointAt s at) e1 e2 (pointAt s (at + 24 * j))) n ys b
     ∙ ap (λ (x : Vector). list (λ j. flatOn (pointAt s at) e1 x (pointAt s (at + 24 * j))) n 0) r
     ∙ ap (λ (x : Vector). list (λ j. flatOn (pointAt s at) x (cross lid x) (pointAt s (at + 24 * j))) n 0) q
     ∙ flatten-points s n at lid
@@ -102,11 +102,11 @@ cut-lid s o fs counts m r e =
     ∙ ap (λ (at : ℕ). flatten (lidNormal (cornersAt s (o .outer) at)) (pointsAt s (cornerCount s (o .i) (o .outer) (o .holes)) (at + 12))) (m .place)) e
     ∙ lid-at s (o .i) (o .outer) (o .holes)
 
--- the lid is written where the cut of the corners laid flat is, in a scratch buffer that is lent from the second coordinates on
-pub cut-written : {log log′ ts ts′ : List ℕ} {r : LidCounts} (s : List ℕ) (o : OutlineAt) (scratch : List Float) (w : ℕ) (counts : List ℕ) → OutlineHolds s o
-    → flats (take (o .n) scratch) (drop (o .n) scratch) ≡ flatten (o .lid) (pointsAt s (o .n) (o .at + 12)) → counts ≡ countsAt s (o .holes) (o .i + 4)
-    → WritesLid (lidOf (flats (take (o .n) scratch) (take w (drop (o .n) scratch))) (o .outer) counts .log) (lidOf (flats (take (o .n) scratch) (take w (drop (o .n) scratch))) (o .outer) counts .triangles) log log′ 0 ts ts′ r → w ≡ length scratch - o .n
+-- the lid is written where the cut of the corners laid flat is, in a working buffer that is lent from the second coordinates on
+pub cut-written : {log log′ ts ts′ : List ℕ} {r : LidCounts} (s : List ℕ) (o : OutlineAt) (work : List Float) (w : ℕ) (counts : List ℕ) → OutlineHolds s o
+    → flats (take (o .n) work) (drop (o .n) work) ≡ flatten (o .lid) (pointsAt s (o .n) (o .at + 12)) → counts ≡ countsAt s (o .holes) (o .i + 4)
+    → WritesLid (lidOf (flats (take (o .n) work) (take w (drop (o .n) work))) (o .outer) counts .log) (lidOf (flats (take (o .n) work) (take w (drop (o .n) work))) (o .outer) counts .triangles) log log′ 0 ts ts′ r → w ≡ length work - o .n
     → WritesLid (lidAt s (o .i) (o .outer) (o .holes) .log) (lidAt s (o .i) (o .outer) (o .holes) .triangles) log log′ 0 ts ts′ r
-cut-written {log} {log′} {ts} {ts′} {r} s o scratch w counts m flat e written h =
+cut-written {log} {log′} {ts} {ts′} {r} s o work w counts m flat e written h =
     subst (λ (l : Lid). WritesLid (l .log) (l .triangles) log log′ 0 ts ts′ r)
-    (cut-lid s o _ counts m (ap (flats (take (o .n) scratch)) (take-all w (drop (o .n) scratch) (simp length-drop (omega arith))) ∙ flat) e) written
+    (cut-lid s o _ counts m (ap (flats (take (o .n) work)) (take-all w (drop (o .n) work) (simp length-drop (omega arith))) ∙ flat) e) written

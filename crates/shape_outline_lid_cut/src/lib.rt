@@ -15,19 +15,19 @@ use scene_field::u16_in;
 use scene_field_point::point_at;
 use shape_outline_corners::OutlineAt;
 
-// Lays the n points at `at` flat on the lid's plane: their first coordinates go to the front of `scratch`,
+// Lays the n points at `at` flat on the lid's plane: their first coordinates go to the front of `work`,
 // the second ones behind them.
-fn lay_flat(s: &[u8], at: usize, n: usize, lid: Vector, scratch: &mut [f32])
-    requires { ⌜ PointsIn (now s) at n × (2 * n ≤ length (now scratch)) ⌝ }
-    ensures { λ _. ⌜ flats (take n (now (scratch .exit))) (drop n (now (scratch .exit))) ≡ flatten lid (pointsAt (now (s .entry)) n at) ⌝ }
+fn lay_flat(s: &[u8], at: usize, n: usize, lid: Vector, work: &mut [f32])
+    requires { ⌜ PointsIn (now s) at n × (2 * n ≤ length (now work)) ⌝ }
+    ensures { λ _. ⌜ flats (take n (now (work .exit))) (drop n (now (work .exit))) ≡ flatten lid (pointsAt (now (s .entry)) n at) ⌝ }
 {
     let e1 = first_axis(lid);
     let e2 = lid.cross(e1);
     let mut k = 0;
     while k < n {
         let f = flat_corner(point_at(s, at), e1, e2, point_at(s, at + 24 * k));
-        scratch[k] = f.u;
-        scratch[n + k] = f.v;
+        work[k] = f.x;
+        work[n + k] = f.y;
         k += 1;
     }
 }
@@ -48,19 +48,19 @@ fn read_counts(s: &[u8], at: usize, n: usize, counts: &mut [u32])
 pub fn cut(
     s: &[u8],
     o: OutlineAt,
-    scratch: &mut [f32],
+    work: &mut [f32],
     log: &mut [u32],
     triangles: &mut [u32],
 ) -> lid::LidCounts
-    requires { ⌜ OutlineHolds (now s) o × (2 * o .n ≤ length (now scratch)) ⌝ }
+    requires { ⌜ OutlineHolds (now s) o × (2 * o .n ≤ length (now work)) ⌝ }
     ensures { λ r. ⌜ LidWritten (lidAt (now (s .entry)) (o .i) (o .outer) (o .holes)) log 0 triangles r ⌝ }
 {
     let mut counts = [0; 32];
     let h = o.holes;
     let n = o.n as usize;
-    lay_flat(s, o.at + 12, n, o.lid, scratch);
+    lay_flat(s, o.at + 12, n, o.lid, work);
     read_counts(s, o.i + 4, h, &mut counts);
-    let flat: &[f32] = scratch;
+    let flat: &[f32] = work;
     triangulate(
         &flat[..n],
         &flat[n..],

@@ -98,7 +98,7 @@ fn closed_price(n: u32, high: bool, triangles: u32) -> u32
     2 * n + triangles
 }
 
-// The lid and the floor of an outline, with its log: `scratch` has the corners laid flat and then the
+// The lid and the floor of an outline, with its log: `work` has the corners laid flat and then the
 // points of a face, `ts` the lid's triangles.
 fn cap_in(
     s: &[u8],
@@ -106,7 +106,7 @@ fn cap_in(
     limit: f32,
     before: u32,
     t: Tally,
-    scratch: &mut [f32],
+    work: &mut [f32],
     ts: &mut [u32],
     vs: &mut [f32],
     ns: &mut [f32],
@@ -114,12 +114,12 @@ fn cap_in(
     log: &mut [u32],
 ) -> Capped
     requires { ⌜ OutlineHolds (now s) o × (o .high ≡ hasHeight (allIn (now s) o)) × Countable before t 1024 1224 ⌝ }
-    requires { ⌜ (3 * o .n ≤ length (now scratch)) × (3 * length (lidIn (now s) o .triangles) ≤ length (now ts)) ⌝ }
+    requires { ⌜ (3 * o .n ≤ length (now work)) × (3 * length (lidIn (now s) o .triangles) ≤ length (now ts)) ⌝ }
     ensures { λ r. ⌜ Caps limit (now (s .entry)) o before t r vs ns is log ⌝ }
 {
-    let d = cut(s, o, scratch, log, ts);
+    let d = cut(s, o, work, log, ts);
     let c = 3 * (d.triangles as usize);
-    let l = lid_faces(s, o, &ts[..c], scratch, limit, before, t, vs, ns, is);
+    let l = lid_faces(s, o, &ts[..c], work, limit, before, t, vs, ns, is);
     let lid = l.lid;
     let floor = l.floor;
     Capped {
@@ -131,7 +131,7 @@ fn cap_in(
 }
 
 // The lid and the floor of an outline, with its log. Most outlines have few corners, and need not wait
-// until a long scratch buffer is cleared.
+// until a long working buffer is cleared.
 pub fn cap(
     s: &[u8],
     o: OutlineAt,
@@ -147,11 +147,11 @@ pub fn cap(
     ensures { λ r. ⌜ Caps limit (now (s .entry)) o before t r vs ns is log ⌝ }
 {
     if (o.n as usize) + 3 * o.holes <= 32 {
-        let mut scratch = [0.0; 96];
+        let mut work = [0.0; 96];
         let mut ts = [0; 102];
-        return cap_in(s, o, limit, before, t, &mut scratch, &mut ts, vs, ns, is, log);
+        return cap_in(s, o, limit, before, t, &mut work, &mut ts, vs, ns, is, log);
     }
-    let mut scratch = [0.0; 1536];
+    let mut work = [0.0; 1536];
     let mut ts = [0; 1836];
-    cap_in(s, o, limit, before, t, &mut scratch, &mut ts, vs, ns, is, log)
+    cap_in(s, o, limit, before, t, &mut work, &mut ts, vs, ns, is, log)
 }

@@ -49,13 +49,13 @@ module _ (fs : List Flat) where
   rightmost-in : (h : List ℕ) → 0 < length h → rightmost fs h < length h
   unfolding rightmost
   rightmost-in h p = loop-keeps₀ (λ (k : ℕ). k < length h) _ (length h) 0
-      (λ i b s q. either (λ (k : ℕ). k < length h) (totalLess (corner fs (getD h i 0) .u) (corner fs (getD h s 0) .u)) q b) p
+      (λ i b s q. either (λ (k : ℕ). k < length h) (totalLess (corner fs (getD h i 0) .x) (corner fs (getD h s 0) .x)) q b) p
 
   hitEdge-in : (n : ℕ) (m a b : Flat) (k j : ℕ) (h : Hit) → k < n → j < n → HitIn n h → HitIn n (hitEdge m a b k j h)
   unfolding hitEdge
   hitEdge-in n m a b k j h hk hj q =
       either (HitIn n) (passes m a b) q
-      (either (HitIn n) (lt (meets m a b) (m .u) || noNearer h (meets m a b)) q (hit-at (either (λ (i : ℕ). i < n) (lt (b .u) (a .u)) hk hj)))
+      (either (HitIn n) (lt (meets m a b) (m .x) || noNearer h (meets m a b)) q (hit-at (either (λ (i : ℕ). i < n) (lt (b .x) (a .x)) hk hj)))
 
   firstHit-in : (r : List ℕ) (m : Flat) → HitIn (length r) (firstHit fs r m)
   unfolding firstHit hitAt
@@ -66,7 +66,7 @@ module _ (fs : List Flat) where
   unfolding seenAt
   seenAt-in r m i end s k best hk q =
       let c = getD r k 0 in
-      either (SeenIn (length r)) (eq s zerof || eqb c end || lt (corner fs c .u) (m .u) || not (inside m i (corner fs end) s (corner fs c))) q
+      either (SeenIn (length r)) (eq s zerof || eqb c end || lt (corner fs c .x) (m .x) || not (inside m i (corner fs end) s (corner fs c))) q
       (either (SeenIn (length r)) (lt (slopeOf m (corner fs c)) (best .slope)) (record { place-in = hk }) q)
 
   visible-in : (r : List ℕ) (m i : Flat) (t : ℕ) → t < length r → visible fs r m i t < length r

@@ -10,10 +10,10 @@ use Rattle.lid_area.proofs.area.Statement.{statement}
 use Rattle.lid_area.proofs.area.Tie as tie
 
 abbrev Inv-loop : tie.InvT-loop
-Inv-loop us vs ring sum₀ k₀ sum k = (k ≤ length ring) × (loop (areaStep (flats us vs) ring) (length ring - k) k sum ≡ area (flats us vs) ring)
+Inv-loop xs ys ring sum₀ k₀ sum k = (k ≤ length ring) × (loop (areaStep (flats xs ys) ring) (length ring - k) k sum ≡ area (flats xs ys) ring)
 
 abbrev μ-loop : tie.MeasureT-loop
-μ-loop us vs ring sum₀ k₀ sum k = length ring - k
+μ-loop xs ys ring sum₀ k₀ sum k = length ring - k
 
 loop-holds : tie.Need-loop-holds Inv-loop μ-loop
 unfolding area

@@ -11,10 +11,10 @@ use Rattle.lid_area.proofs.right.Statement.{statement}
 use Rattle.lid_area.proofs.right.Tie as tie
 
 abbrev Inv-loop : tie.InvT-loop
-Inv-loop us vs ring best₀ k₀ best k = (k ≤ length ring) × (fold (rightStep (flats us vs)) best (drop k ring) ≡ right (flats us vs) ring)
+Inv-loop xs ys ring best₀ k₀ best k = (k ≤ length ring) × (fold (rightStep (flats xs ys)) best (drop k ring) ≡ right (flats xs ys) ring)
 
 abbrev μ-loop : tie.MeasureT-loop
-μ-loop us vs ring best₀ k₀ best k = length ring - k
+μ-loop xs ys ring best₀ k₀ best k = length ring - k
 
 float-from-bits-best : tie.Need-float-from-bits-best Inv-loop μ-loop
 unfolding nanBits

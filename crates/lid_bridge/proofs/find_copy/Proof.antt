@@ -11,10 +11,10 @@ use Rattle.lid_bridge.proofs.find_copy.Statement.{statement}
 use Rattle.lid_bridge.proofs.find_copy.Tie as tie
 
 abbrev Inv-loop : tie.InvT-loop
-Inv-loop us vs ring m c k₀ k = (k ≤ length ring) × (first (isCopy (flats us vs) ring m (c .0)) (length ring - k) k ≡ first (isCopy (flats us vs) ring m (c .0)) (length ring) 0)
+Inv-loop xs ys ring m c k₀ k = (k ≤ length ring) × (first (isCopy (flats xs ys) ring m (c .0)) (length ring - k) k ≡ first (isCopy (flats xs ys) ring m (c .0)) (length ring) 0)
 
 abbrev μ-loop : tie.MeasureT-loop
-μ-loop us vs ring m c k₀ k = length ring - k
+μ-loop xs ys ring m c k₀ k = length ring - k
 
 loop-holds : tie.Need-loop-holds Inv-loop μ-loop
 loop-holds c = (omega arith, first-start _ _)

@@ -13,10 +13,10 @@ use Rattle.lid_bridge.proofs.visible.Statement.{statement}
 use Rattle.lid_bridge.proofs.visible.Tie as tie
 
 abbrev Inv-loop : tie.InvT-loop
-Inv-loop us vs ring ray best₀ k₀ best k = (k ≤ length ring) × (loop (seenAt (flats us vs) ring (ray .m) (ray .i) (ray .end .0) (ray .s)) (length ring - k) k best ≡ loop (seenAt (flats us vs) ring (ray .m) (ray .i) (ray .end .0) (ray .s)) (length ring) 0 best₀)
+Inv-loop xs ys ring ray best₀ k₀ best k = (k ≤ length ring) × (loop (seenAt (flats xs ys) ring (ray .m) (ray .i) (ray .end .0) (ray .s)) (length ring - k) k best ≡ loop (seenAt (flats xs ys) ring (ray .m) (ray .i) (ray .end .0) (ray .s)) (length ring) 0 best₀)
 
 abbrev μ-loop : tie.MeasureT-loop
-μ-loop us vs ring ray best₀ k₀ best k = length ring - k
+μ-loop xs ys ring ray best₀ k₀ best k = length ring - k
 
 float-from-bits-t10 : tie.Need-float-from-bits-t10 Inv-loop μ-loop
 unfolding nanBits

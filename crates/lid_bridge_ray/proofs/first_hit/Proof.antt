@@ -11,10 +11,10 @@ use Rattle.lid_bridge_ray.proofs.first_hit.Statement.{statement}
 use Rattle.lid_bridge_ray.proofs.first_hit.Tie as tie
 
 abbrev Inv-loop : tie.InvT-loop
-Inv-loop us vs ring m h₀ k₀ h k = (k ≤ length ring) × (loop (hitAt (flats us vs) ring m) (length ring - k) k h ≡ firstHit (flats us vs) ring m)
+Inv-loop xs ys ring m h₀ k₀ h k = (k ≤ length ring) × (loop (hitAt (flats xs ys) ring m) (length ring - k) k h ≡ firstHit (flats xs ys) ring m)
 
 abbrev μ-loop : tie.MeasureT-loop
-μ-loop us vs ring m h₀ k₀ h k = length ring - k
+μ-loop xs ys ring m h₀ k₀ h k = length ring - k
 
 loop-holds : tie.Need-loop-holds Inv-loop μ-loop
 unfolding firstHit

@@ -11,10 +11,10 @@ use Rattle.lid_bridge_ray.proofs.rightmost.Statement.{statement}
 use Rattle.lid_bridge_ray.proofs.rightmost.Tie as tie
 
 abbrev Inv-loop : tie.InvT-loop
-Inv-loop us vs hole best₀ k₀ best k = (k ≤ length hole) × (best .0 < length hole) × (loop (rightmostStep (flats us vs) hole) (length hole - k) k (best .0) ≡ rightmost (flats us vs) hole)
+Inv-loop xs ys hole best₀ k₀ best k = (k ≤ length hole) × (best .0 < length hole) × (loop (rightmostStep (flats xs ys) hole) (length hole - k) k (best .0) ≡ rightmost (flats xs ys) hole)
 
 abbrev μ-loop : tie.MeasureT-loop
-μ-loop us vs hole best₀ k₀ best k = length hole - k
+μ-loop xs ys hole best₀ k₀ best k = length hole - k
 
 loop-holds : tie.Need-loop-holds Inv-loop μ-loop
 unfolding rightmost

@@ -14,15 +14,15 @@ use Rattle.lid_clip.proofs.clip.Tie as tie
 use denote.Ref.{now}
 
 abbrev Inv-loop : tie.InvT-loop
-Inv-loop us vs ring₀ why₀ log₀ n triangles₀ left₀ entries₀ count₀ ring why log triangles left entries count = Clipping (flats us vs) ring₀ log₀ n triangles₀ ring log triangles left entries count × Noting (flats us vs) why₀ ring why left
+Inv-loop xs ys ring₀ why₀ log₀ n triangles₀ left₀ entries₀ count₀ ring why log triangles left entries count = Clipping (flats xs ys) ring₀ log₀ n triangles₀ ring log triangles left entries count × Noting (flats xs ys) why₀ ring why left
 
 abbrev μ-loop : tie.MeasureT-loop
-μ-loop us vs ring₀ why₀ log₀ n triangles₀ left₀ entries₀ count₀ ring why log triangles left entries count = left
+μ-loop xs ys ring₀ why₀ log₀ n triangles₀ left₀ entries₀ count₀ ring why log triangles left entries count = left
 
 loop-holds : tie.Need-loop-holds Inv-loop μ-loop
 loop-holds c =
     let a = c .before .before .before .before .before .before .before .before .before .before .args in
-    (clip-start (flats (now (a .us)) (now (a .vs))) (now (a .ring)) (now (a .log)) (a .n) (now (a .triangles)), noting-start (flats (now (a .us)) (now (a .vs))) (c .before .before .forget-all .last .0) (now (a .ring)) (c .before .before .forget-all .last .0) refl (omega (arith, c .before .before .forget-all .kept .0, c .before .before .before .before .before .before .before .before .before .before .pre .1)) _ (c .before .before .forget-all .ensures) (c .before .before .before .before .before .before .before .before .before .before .pre .1))
+    (clip-start (flats (now (a .xs)) (now (a .ys))) (now (a .ring)) (now (a .log)) (a .n) (now (a .triangles)), noting-start (flats (now (a .xs)) (now (a .ys))) (c .before .before .forget-all .last .0) (now (a .ring)) (c .before .before .forget-all .last .0) refl (omega (arith, c .before .before .forget-all .kept .0, c .before .before .before .before .before .before .before .before .before .before .pre .1)) _ (c .before .before .forget-all .ensures) (c .before .before .before .before .before .before .before .before .before .before .pre .1))
 
 slice-reshare-prefix-clip-step : tie.Need-slice-reshare-prefix-clip-step Inv-loop μ-loop
 slice-reshare-prefix-clip-step c = (ring-room (c .loop .inv .0 .long) (c .loop .inv .0 .fewer))
@@ -40,7 +40,7 @@ clip-step-requires : tie.Need-clip-step-requires Inv-loop μ-loop
 clip-step-requires c κs =
     let a = c .before .before .before .before .before .before .before .before .before .before .before .before .before .args in
     let l = c .before .before .loop in
-    (both-long (flats (now (a .us)) (now (a .vs))) [] (l .ring) (l .why) (l .left) (ring-room (c .before .before .loop .inv .0 .long) (c .before .before .loop .inv .0 .fewer)) (why-room (c .before .before .before .before .before .forget-all .kept .0) (c .before .before .loop .inv .1 .why-long) (c .before .before .loop .inv .0 .fewer) (c .before .before .before .before .before .before .before .before .before .before .before .before .before .pre .1)), c .before .before .loop .inv .1 .known)
+    (both-long (flats (now (a .xs)) (now (a .ys))) [] (l .ring) (l .why) (l .left) (ring-room (c .before .before .loop .inv .0 .long) (c .before .before .loop .inv .0 .fewer)) (why-room (c .before .before .before .before .before .forget-all .kept .0) (c .before .before .loop .inv .1 .why-long) (c .before .before .loop .inv .0 .fewer) (c .before .before .before .before .before .before .before .before .before .before .before .before .before .pre .1)), c .before .before .loop .inv .1 .known)
 
 same-length : tie.Need-same-length Inv-loop μ-loop
 same-length c = c .before .before .before .before .before .before .before .loop .inv .0 .long
@@ -49,7 +49,7 @@ same-length-2 : tie.Need-same-length-2 Inv-loop μ-loop
 same-length-2 c =
     let a = c .before .before .before .before .before .before .before .before .before .before .before .before .before .before .before .before .before .before .args in
     let l = c .before .before .before .before .before .before .before .loop in
-    (noting-mid (flats (now (a .us)) (now (a .vs))) (c .before .before .before .before .before .before .before .before .before .before .forget-all .last .0) (l .ring) (l .why) (l .left) (ring-room (c .before .before .before .before .before .before .before .loop .inv .0 .long) (c .before .before .before .before .before .before .before .loop .inv .0 .fewer)) (why-room (c .before .before .before .before .before .before .before .before .before .before .forget-all .kept .0) (c .before .before .before .before .before .before .before .loop .inv .1 .why-long) (c .before .before .before .before .before .before .before .loop .inv .0 .fewer) (c .before .before .before .before .before .before .before .before .before .before .before .before .before .before .before .before .before .before .pre .1)) (c .before .before .before .before .clip-step .last .1 .1 .1 .0) (c .before .before .before .before .clip-step .kept .1 .1 .1 .0) (c .before .before .before .before .before .before .before .loop .inv .1 .why-long) (c .before .before .before .before .clip-step .ensures .1 .0)) .why-long ∙ c .before .before .before .before .before .before .before .before .before .before .forget-all .kept .0
+    (noting-mid (flats (now (a .xs)) (now (a .ys))) (c .before .before .before .before .before .before .before .before .before .before .forget-all .last .0) (l .ring) (l .why) (l .left) (ring-room (c .before .before .before .before .before .before .before .loop .inv .0 .long) (c .before .before .before .before .before .before .before .loop .inv .0 .fewer)) (why-room (c .before .before .before .before .before .before .before .before .before .before .forget-all .kept .0) (c .before .before .before .before .before .before .before .loop .inv .1 .why-long) (c .before .before .before .before .before .before .before .loop .inv .0 .fewer) (c .before .before .before .before .before .before .before .before .before .before .before .before .before .before .before .before .before .before .pre .1)) (c .before .before .before .before .clip-step .last .1 .1 .1 .0) (c .before .before .before .before .clip-step .kept .1 .1 .1 .0) (c .before .before .before .before .before .before .before .loop .inv .1 .why-long) (c .before .before .before .before .clip-step .ensures .1 .0)) .why-long ∙ c .before .before .before .before .before .before .before .before .before .before .forget-all .kept .0
 
 same-length-3 : tie.Need-same-length-3 Inv-loop μ-loop
 same-length-3 c = c .before .before .before .before .before .before .before .loop .inv .0 .log-long
@@ -61,7 +61,7 @@ returns : tie.Need-returns Inv-loop μ-loop
 returns c =
     let a = c .before .before .before .before .before .before .before .before .before .before .before .before .before .before .before .before .before .before .args in
     let l = c .before .before .before .before .before .before .before .loop in
-    clip-end (flats (now (a .us)) (now (a .vs))) (now (a .ring)) (now (a .log)) (a .n) (now (a .triangles)) (l .ring) (l .log) (l .triangles) (l .left) (l .entries) (l .count) (c .before .before .before .before .before .before .before .loop .inv .0) (sym (c .before .before .before .before .clip-step .ensures .0) ∙ c .enum-told .given .1)
+    clip-end (flats (now (a .xs)) (now (a .ys))) (now (a .ring)) (now (a .log)) (a .n) (now (a .triangles)) (l .ring) (l .log) (l .triangles) (l .left) (l .entries) (l .count) (c .before .before .before .before .before .before .before .loop .inv .0) (sym (c .before .before .before .before .clip-step .ensures .0) ∙ c .enum-told .given .1)
 
 slice-relend-prefix-cut : tie.Need-slice-relend-prefix-cut Inv-loop μ-loop
 slice-relend-prefix-cut c = (ring-room (c .before .before .before .before .before .before .before .before .loop .inv .0 .long) (c .before .before .before .before .before .before .before .before .loop .inv .0 .fewer))
@@ -73,43 +73,43 @@ slice-relend-prefix-cut-2 : tie.Need-slice-relend-prefix-cut-2 Inv-loop μ-loop
 slice-relend-prefix-cut-2 c =
     let a = c .before .before .before .before .before .before .before .before .before .before .before .before .before .before .before .before .before .before .before .before .args in
     let l = c .before .before .before .before .before .before .before .before .before .loop in
-    (why-room (c .before .before .before .before .before .before .before .before .before .before .before .before .forget-all .kept .0) ((noting-mid (flats (now (a .us)) (now (a .vs))) (c .before .before .before .before .before .before .before .before .before .before .before .before .forget-all .last .0) (l .ring) (l .why) (l .left) (ring-room (c .before .before .before .before .before .before .before .before .before .loop .inv .0 .long) (c .before .before .before .before .before .before .before .before .before .loop .inv .0 .fewer)) (why-room (c .before .before .before .before .before .before .before .before .before .before .before .before .forget-all .kept .0) (c .before .before .before .before .before .before .before .before .before .loop .inv .1 .why-long) (c .before .before .before .before .before .before .before .before .before .loop .inv .0 .fewer) (c .before .before .before .before .before .before .before .before .before .before .before .before .before .before .before .before .before .before .before .before .pre .1)) (c .before .before .before .before .before .before .clip-step .last .1 .1 .1 .0) (c .before .before .before .before .before .before .clip-step .kept .1 .1 .1 .0) (c .before .before .before .before .before .before .before .before .before .loop .inv .1 .why-long) (c .before .before .before .before .before .before .clip-step .ensures .1 .0)) .why-long) (c .before .before .before .before .before .before .before .before .before .loop .inv .0 .fewer) (c .before .before .before .before .before .before .before .before .before .before .before .before .before .before .before .before .before .before .before .before .pre .1))
+    (why-room (c .before .before .before .before .before .before .before .before .before .before .before .before .forget-all .kept .0) ((noting-mid (flats (now (a .xs)) (now (a .ys))) (c .before .before .before .before .before .before .before .before .before .before .before .before .forget-all .last .0) (l .ring) (l .why) (l .left) (ring-room (c .before .before .before .before .before .before .before .before .before .loop .inv .0 .long) (c .before .before .before .before .before .before .before .before .before .loop .inv .0 .fewer)) (why-room (c .before .before .before .before .before .before .before .before .before .before .before .before .forget-all .kept .0) (c .before .before .before .before .before .before .before .before .before .loop .inv .1 .why-long) (c .before .before .before .before .before .before .before .before .before .loop .inv .0 .fewer) (c .before .before .before .before .before .before .before .before .before .before .before .before .before .before .before .before .before .before .before .before .pre .1)) (c .before .before .before .before .before .before .clip-step .last .1 .1 .1 .0) (c .before .before .before .before .before .before .clip-step .kept .1 .1 .1 .0) (c .before .before .before .before .before .before .before .before .before .loop .inv .1 .why-long) (c .before .before .before .before .before .before .clip-step .ensures .1 .0)) .why-long) (c .before .before .before .before .before .before .before .before .before .loop .inv .0 .fewer) (c .before .before .before .before .before .before .before .before .before .before .before .before .before .before .before .before .before .before .before .before .pre .1))
 
 slice-aggregate-cut-2 : tie.Need-slice-aggregate-cut-2 Inv-loop μ-loop
 slice-aggregate-cut-2 c =
     let a = c .before .before .before .before .before .before .before .before .before .before .before .before .before .before .before .before .before .before .before .before .before .args in
     let l = c .before .before .before .before .before .before .before .before .before .before .loop in
-    sym (length-take-le _ _ (why-room (c .before .before .before .before .before .before .before .before .before .before .before .before .before .forget-all .kept .0) ((noting-mid (flats (now (a .us)) (now (a .vs))) (c .before .before .before .before .before .before .before .before .before .before .before .before .before .forget-all .last .0) (l .ring) (l .why) (l .left) (ring-room (c .before .before .before .before .before .before .before .before .before .before .loop .inv .0 .long) (c .before .before .before .before .before .before .before .before .before .before .loop .inv .0 .fewer)) (why-room (c .before .before .before .before .before .before .before .before .before .before .before .before .before .forget-all .kept .0) (c .before .before .before .before .before .before .before .before .before .before .loop .inv .1 .why-long) (c .before .before .before .before .before .before .before .before .before .before .loop .inv .0 .fewer) (c .before .before .before .before .before .before .before .before .before .before .before .before .before .before .before .before .before .before .before .before .before .pre .1)) (c .before .before .before .before .before .before .before .clip-step .last .1 .1 .1 .0) (c .before .before .before .before .before .before .before .clip-step .kept .1 .1 .1 .0) (c .before .before .before .before .before .before .before .before .before .before .loop .inv .1 .why-long) (c .before .before .before .before .before .before .before .clip-step .ensures .1 .0)) .why-long) (c .before .before .before .before .before .before .before .before .before .before .loop .inv .0 .fewer) (c .before .before .before .before .before .before .before .before .before .before .before .before .before .before .before .before .before .before .before .before .before .pre .1)))
+    sym (length-take-le _ _ (why-room (c .before .before .before .before .before .before .before .before .before .before .before .before .before .forget-all .kept .0) ((noting-mid (flats (now (a .xs)) (now (a .ys))) (c .before .before .before .before .before .before .before .before .before .before .before .before .before .forget-all .last .0) (l .ring) (l .why) (l .left) (ring-room (c .before .before .before .before .before .before .before .before .before .before .loop .inv .0 .long) (c .before .before .before .before .before .before .before .before .before .before .loop .inv .0 .fewer)) (why-room (c .before .before .before .before .before .before .before .before .before .before .before .before .before .forget-all .kept .0) (c .before .before .before .before .before .before .before .before .before .before .loop .inv .1 .why-long) (c .before .before .before .before .before .before .before .before .before .before .loop .inv .0 .fewer) (c .before .before .before .before .before .before .before .before .before .before .before .before .before .before .before .before .before .before .before .before .before .pre .1)) (c .before .before .before .before .before .before .before .clip-step .last .1 .1 .1 .0) (c .before .before .before .before .before .before .before .clip-step .kept .1 .1 .1 .0) (c .before .before .before .before .before .before .before .before .before .before .loop .inv .1 .why-long) (c .before .before .before .before .before .before .before .clip-step .ensures .1 .0)) .why-long) (c .before .before .before .before .before .before .before .before .before .before .loop .inv .0 .fewer) (c .before .before .before .before .before .before .before .before .before .before .before .before .before .before .before .before .before .before .before .before .before .pre .1)))
 
 cut-requires : tie.Need-cut-requires Inv-loop μ-loop
 cut-requires c κs =
     let a = c .before .before .before .before .before .before .before .before .before .before .before .before .before .before .before .before .before .before .before .before .before .before .before .args in
     let l = c .before .before .before .before .before .before .before .before .before .before .before .before .loop in
-    (step-in (flats (now (a .us)) (now (a .vs))) (take (l .left) (l .ring)) _ _ (sym (c .before .before .before .before .before .before .before .before .before .clip-step .ensures .0) ∙ c .before .before .before .before .before .mark .given .1), (both-long (flats (now (a .us)) (now (a .vs))) [] (l .ring) ((c .before .before .before .before .before .before .before .before .before .clip-step .last .1 .1 .1 .0) ++ drop (l .left) (l .why)) (l .left) (ring-room (c .before .before .before .before .before .before .before .before .before .before .before .before .loop .inv .0 .long) (c .before .before .before .before .before .before .before .before .before .before .before .before .loop .inv .0 .fewer)) (why-room (c .before .before .before .before .before .before .before .before .before .before .before .before .before .before .before .forget-all .kept .0) ((noting-mid (flats (now (a .us)) (now (a .vs))) (c .before .before .before .before .before .before .before .before .before .before .before .before .before .before .before .forget-all .last .0) (l .ring) (l .why) (l .left) (ring-room (c .before .before .before .before .before .before .before .before .before .before .before .before .loop .inv .0 .long) (c .before .before .before .before .before .before .before .before .before .before .before .before .loop .inv .0 .fewer)) (why-room (c .before .before .before .before .before .before .before .before .before .before .before .before .before .before .before .forget-all .kept .0) (c .before .before .before .before .before .before .before .before .before .before .before .before .loop .inv .1 .why-long) (c .before .before .before .before .before .before .before .before .before .before .before .before .loop .inv .0 .fewer) (c .before .before .before .before .before .before .before .before .before .before .before .before .before .before .before .before .before .before .before .before .before .before .before .pre .1)) (c .before .before .before .before .before .before .before .before .before .clip-step .last .1 .1 .1 .0) (c .before .before .before .before .before .before .before .before .before .clip-step .kept .1 .1 .1 .0) (c .before .before .before .before .before .before .before .before .before .before .before .before .loop .inv .1 .why-long) (c .before .before .before .before .before .before .before .before .before .clip-step .ensures .1 .0)) .why-long) (c .before .before .before .before .before .before .before .before .before .before .before .before .loop .inv .0 .fewer) (c .before .before .before .before .before .before .before .before .before .before .before .before .before .before .before .before .before .before .before .before .before .before .before .pre .1)), omega (arith, step-over (flats (now (a .us)) (now (a .vs))) (take (l .left) (l .ring)) _ _ (sym (c .before .before .before .before .before .before .before .before .before .clip-step .ensures .0) ∙ c .before .before .before .before .before .mark .given .1), length-take-le (l .left) (l .ring) (ring-room (c .before .before .before .before .before .before .before .before .before .before .before .before .loop .inv .0 .long) (c .before .before .before .before .before .before .before .before .before .before .before .before .loop .inv .0 .fewer)), c .before .before .before .before .before .before .before .before .before .before .before .before .loop .inv .0 .fewer, c .before .before .before .before .before .before .before .before .before .before .before .before .loop .inv .0 .few, c .before .before .before .before .before .before .before .before .before .before .before .before .before .before .before .before .before .before .before .before .before .before .before .pre .0)))
+    (step-in (flats (now (a .xs)) (now (a .ys))) (take (l .left) (l .ring)) _ _ (sym (c .before .before .before .before .before .before .before .before .before .clip-step .ensures .0) ∙ c .before .before .before .before .before .mark .given .1), (both-long (flats (now (a .xs)) (now (a .ys))) [] (l .ring) ((c .before .before .before .before .before .before .before .before .before .clip-step .last .1 .1 .1 .0) ++ drop (l .left) (l .why)) (l .left) (ring-room (c .before .before .before .before .before .before .before .before .before .before .before .before .loop .inv .0 .long) (c .before .before .before .before .before .before .before .before .before .before .before .before .loop .inv .0 .fewer)) (why-room (c .before .before .before .before .before .before .before .before .before .before .before .before .before .before .before .forget-all .kept .0) ((noting-mid (flats (now (a .xs)) (now (a .ys))) (c .before .before .before .before .before .before .before .before .before .before .before .before .before .before .before .forget-all .last .0) (l .ring) (l .why) (l .left) (ring-room (c .before .before .before .before .before .before .before .before .before .before .before .before .loop .inv .0 .long) (c .before .before .before .before .before .before .before .before .before .before .before .before .loop .inv .0 .fewer)) (why-room (c .before .before .before .before .before .before .before .before .before .before .before .before .before .before .before .forget-all .kept .0) (c .before .before .before .before .before .before .before .before .before .before .before .before .loop .inv .1 .why-long) (c .before .before .before .before .before .before .before .before .before .before .before .before .loop .inv .0 .fewer) (c .before .before .before .before .before .before .before .before .before .before .before .before .before .before .before .before .before .before .before .before .before .before .before .pre .1)) (c .before .before .before .before .before .before .before .before .before .clip-step .last .1 .1 .1 .0) (c .before .before .before .before .before .before .before .before .before .clip-step .kept .1 .1 .1 .0) (c .before .before .before .before .before .before .before .before .before .before .before .before .loop .inv .1 .why-long) (c .before .before .before .before .before .before .before .before .before .clip-step .ensures .1 .0)) .why-long) (c .before .before .before .before .before .before .before .before .before .before .before .before .loop .inv .0 .fewer) (c .before .before .before .before .before .before .before .before .before .before .before .before .before .before .before .before .before .before .before .before .before .before .before .pre .1)), omega (arith, step-over (flats (now (a .xs)) (now (a .ys))) (take (l .left) (l .ring)) _ _ (sym (c .before .before .before .before .before .before .before .before .before .clip-step .ensures .0) ∙ c .before .before .before .before .before .mark .given .1), length-take-le (l .left) (l .ring) (ring-room (c .before .before .before .before .before .before .before .before .before .before .before .before .loop .inv .0 .long) (c .before .before .before .before .before .before .before .before .before .before .before .before .loop .inv .0 .fewer)), c .before .before .before .before .before .before .before .before .before .before .before .before .loop .inv .0 .fewer, c .before .before .before .before .before .before .before .before .before .before .before .before .loop .inv .0 .few, c .before .before .before .before .before .before .before .before .before .before .before .before .before .before .before .before .before .before .before .before .before .before .before .pre .0)))
 
 sub-left : tie.Need-sub-left Inv-loop μ-loop
 sub-left c =
     let a = c .before .before .before .before .before .before .before .before .before .before .before .before .before .before .before .before .before .before .before .before .before .before .before .before .before .before .before .before .before .before .before .before .args in
     let l = c .before .before .before .before .before .before .before .before .before .before .before .before .before .before .before .before .before .before .before .before .before .loop in
-    omega (arith, step-over (flats (now (a .us)) (now (a .vs))) (take (l .left) (l .ring)) _ _ (sym (c .before .before .before .before .before .before .before .before .before .before .before .before .before .before .before .before .before .before .clip-step .ensures .0) ∙ c .before .before .before .before .before .before .before .before .before .before .before .before .before .before .mark .given .1), length-take-le (l .left) (l .ring) (ring-room (c .before .before .before .before .before .before .before .before .before .before .before .before .before .before .before .before .before .before .before .before .before .loop .inv .0 .long) (c .before .before .before .before .before .before .before .before .before .before .before .before .before .before .before .before .before .before .before .before .before .loop .inv .0 .fewer)), c .before .before .before .before .before .before .before .before .before .before .before .before .before .before .before .before .before .before .before .before .before .loop .inv .0 .fewer)
+    omega (arith, step-over (flats (now (a .xs)) (now (a .ys))) (take (l .left) (l .ring)) _ _ (sym (c .before .before .before .before .before .before .before .before .before .before .before .before .before .before .before .before .before .before .clip-step .ensures .0) ∙ c .before .before .before .before .before .before .before .before .before .before .before .before .before .before .mark .given .1), length-take-le (l .left) (l .ring) (ring-room (c .before .before .before .before .before .before .before .before .before .before .before .before .before .before .before .before .before .before .before .before .before .loop .inv .0 .long) (c .before .before .before .before .before .before .before .before .before .before .before .before .before .before .before .before .before .before .before .before .before .loop .inv .0 .fewer)), c .before .before .before .before .before .before .before .before .before .before .before .before .before .before .before .before .before .before .before .before .before .loop .inv .0 .fewer)
 
 add-entries : tie.Need-add-entries Inv-loop μ-loop
 add-entries c =
     let a = c .before .before .before .before .before .before .before .before .before .before .before .before .before .before .before .before .before .before .before .before .before .before .before .before .before .before .before .before .before .before .before .before .args in
     let l = c .before .before .before .before .before .before .before .before .before .before .before .before .before .before .before .before .before .before .before .before .before .loop in
-    omega (arith, step-over (flats (now (a .us)) (now (a .vs))) (take (l .left) (l .ring)) _ _ (sym (c .before .before .before .before .before .before .before .before .before .before .before .before .before .before .before .before .before .before .clip-step .ensures .0) ∙ c .before .before .before .before .before .before .before .before .before .before .before .before .before .before .mark .given .1), length-take-le (l .left) (l .ring) (ring-room (c .before .before .before .before .before .before .before .before .before .before .before .before .before .before .before .before .before .before .before .before .before .loop .inv .0 .long) (c .before .before .before .before .before .before .before .before .before .before .before .before .before .before .before .before .before .before .before .before .before .loop .inv .0 .fewer)), c .before .before .before .before .before .before .before .before .before .before .before .before .before .before .before .before .before .before .before .before .before .loop .inv .0 .fewer, c .before .before .before .before .before .before .before .before .before .before .before .before .before .before .before .before .before .before .before .before .before .loop .inv .0 .so-far, c .before .before .before .before .before .before .before .before .before .before .before .before .before .before .before .before .before .before .before .before .before .before .before .before .before .before .before .before .before .before .before .before .pre .0)
+    omega (arith, step-over (flats (now (a .xs)) (now (a .ys))) (take (l .left) (l .ring)) _ _ (sym (c .before .before .before .before .before .before .before .before .before .before .before .before .before .before .before .before .before .before .clip-step .ensures .0) ∙ c .before .before .before .before .before .before .before .before .before .before .before .before .before .before .mark .given .1), length-take-le (l .left) (l .ring) (ring-room (c .before .before .before .before .before .before .before .before .before .before .before .before .before .before .before .before .before .before .before .before .before .loop .inv .0 .long) (c .before .before .before .before .before .before .before .before .before .before .before .before .before .before .before .before .before .before .before .before .before .loop .inv .0 .fewer)), c .before .before .before .before .before .before .before .before .before .before .before .before .before .before .before .before .before .before .before .before .before .loop .inv .0 .fewer, c .before .before .before .before .before .before .before .before .before .before .before .before .before .before .before .before .before .before .before .before .before .loop .inv .0 .so-far, c .before .before .before .before .before .before .before .before .before .before .before .before .before .before .before .before .before .before .before .before .before .before .before .before .before .before .before .before .before .before .before .before .pre .0)
 
 loop-less : tie.Need-loop-less Inv-loop μ-loop
 loop-less c =
     let a = c .before .before .before .before .before .before .before .before .before .before .before .before .before .before .before .before .before .before .before .before .before .before .before .before .before .before .before .before .before .before .before .before .args in
     let l = c .before .before .before .before .before .before .before .before .before .before .before .before .before .before .before .before .before .before .before .before .before .loop in
-    omega (arith, step-over (flats (now (a .us)) (now (a .vs))) (take (l .left) (l .ring)) _ _ (sym (c .before .before .before .before .before .before .before .before .before .before .before .before .before .before .before .before .before .before .clip-step .ensures .0) ∙ c .before .before .before .before .before .before .before .before .before .before .before .before .before .before .mark .given .1), length-take-le (l .left) (l .ring) (ring-room (c .before .before .before .before .before .before .before .before .before .before .before .before .before .before .before .before .before .before .before .before .before .loop .inv .0 .long) (c .before .before .before .before .before .before .before .before .before .before .before .before .before .before .before .before .before .before .before .before .before .loop .inv .0 .fewer)), c .before .before .before .before .before .before .before .before .before .before .before .before .before .before .before .before .before .before .before .before .before .loop .inv .0 .fewer)
+    omega (arith, step-over (flats (now (a .xs)) (now (a .ys))) (take (l .left) (l .ring)) _ _ (sym (c .before .before .before .before .before .before .before .before .before .before .before .before .before .before .before .before .before .before .clip-step .ensures .0) ∙ c .before .before .before .before .before .before .before .before .before .before .before .before .before .before .mark .given .1), length-take-le (l .left) (l .ring) (ring-room (c .before .before .before .before .before .before .before .before .before .before .before .before .before .before .before .before .before .before .before .before .before .loop .inv .0 .long) (c .before .before .before .before .before .before .before .before .before .before .before .before .before .before .before .before .before .before .before .before .before .loop .inv .0 .fewer)), c .before .before .before .before .before .before .before .before .before .before .before .before .before .before .before .before .before .before .before .before .before .loop .inv .0 .fewer)
 
 loop-again : tie.Need-loop-again Inv-loop μ-loop
 loop-again c =
     let a = c .before .before .before .before .before .before .before .before .before .before .before .before .before .before .before .before .before .before .before .before .before .before .before .before .before .before .before .before .before .before .before .before .args in
     let l = c .before .before .before .before .before .before .before .before .before .before .before .before .before .before .before .before .before .before .before .before .before .loop in
-    let fs = flats (now (a .us)) (now (a .vs)) in
+    let fs = flats (now (a .xs)) (now (a .ys)) in
     let room = ring-room (l .inv .0 .long) (l .inv .0 .fewer) in
     let cut = sym (c .before .before .before .before .before .before .before .before .before .before .before .before .before .before .before .before .before .before .clip-step .ensures .0) ∙ c .before .before .before .before .before .before .before .before .before .before .before .before .before .before .mark .given .1 in
     let mid = noting-mid fs (c .before .before .before .before .before .before .before .before .before .before .before .before .before .before .before .before .before .before .before .before .before .before .before .before .forget-all .last .0) (l .ring) (l .why) (l .left) room (why-room (c .before .before .before .before .before .before .before .before .before .before .before .before .before .before .before .before .before .before .before .before .before .before .before .before .forget-all .kept .0) (l .inv .1 .why-long) (l .inv .0 .fewer) (c .before .before .before .before .before .before .before .before .before .before .before .before .before .before .before .before .before .before .before .before .before .before .before .before .before .before .before .before .before .before .before .before .pre .1)) (c .before .before .before .before .before .before .before .before .before .before .before .before .before .before .before .before .before .before .clip-step .last .1 .1 .1 .0) (c .before .before .before .before .before .before .before .before .before .before .before .before .before .before .before .before .before .before .clip-step .kept .1 .1 .1 .0) (l .inv .1 .why-long) (c .before .before .before .before .before .before .before .before .before .before .before .before .before .before .before .before .before .before .clip-step .ensures .1 .0) in (

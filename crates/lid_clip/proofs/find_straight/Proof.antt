@@ -11,10 +11,10 @@ use Rattle.lid_clip.proofs.find_straight.Statement.{statement}
 use Rattle.lid_clip.proofs.find_straight.Tie as tie
 
 abbrev Inv-loop : tie.InvT-loop
-Inv-loop us vs ring i₀ i = (i ≤ length ring) × (first (isStraight (flats us vs) ring) (length ring - i) i ≡ first (isStraight (flats us vs) ring) (length ring) 0)
+Inv-loop xs ys ring i₀ i = (i ≤ length ring) × (first (isStraight (flats xs ys) ring) (length ring - i) i ≡ first (isStraight (flats xs ys) ring) (length ring) 0)
 
 abbrev μ-loop : tie.MeasureT-loop
-μ-loop us vs ring i₀ i = length ring - i
+μ-loop xs ys ring i₀ i = length ring - i
 
 loop-holds : tie.Need-loop-holds Inv-loop μ-loop
 loop-holds c = (omega arith, first-start _ _)

@@ -9,7 +9,7 @@ use denote.Ref.{now}
 returns : tie.Need-returns
 returns c =
     let a = c .before .before .before .before .before .before .args in
-    flat-both (now (a .us)) (now (a .vs)) (a .c .0) (omega arith) (omega arith)
+    flat-both (now (a .xs)) (now (a .ys)) (a .c .0) (omega arith) (omega arith)
 
 pub flat-in-spec : {M : Type 1} → statement M
 flat-in-spec =

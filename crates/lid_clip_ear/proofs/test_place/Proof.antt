@@ -10,17 +10,17 @@ use denote.Ref.{now}
 returns : tie.Need-returns
 returns c =
     let a = c .before .before .before .before .before .before .before .before .before .args in
-    c .test-corners .ensures ∙ tells-on (flats (now (a .us)) (now (a .vs))) (now (a .ring)) (a .at .0) (a .q) _ _ _ _ (c .before .before .before .before .before .corners-at .ensures) (c .before .before .before .before .flat-at .ensures) (c .before .before .before .flat-at2 .ensures) (c .before .before .flat-at3 .ensures) (c .before .if1 .taken)
+    c .test-corners .ensures ∙ tells-on (flats (now (a .xs)) (now (a .ys))) (now (a .ring)) (a .at .0) (a .q) _ _ _ _ (c .before .before .before .before .before .corners-at .ensures) (c .before .before .before .before .flat-at .ensures) (c .before .before .before .flat-at2 .ensures) (c .before .before .flat-at3 .ensures) (c .before .if1 .taken)
 
 returns-2 : tie.Need-returns-2
 returns-2 c =
     let a = c .before .before .before .before .before .before .before .before .before .before .before .args in
-    c .test-corners2 .ensures ∙ tells-turned (flats (now (a .us)) (now (a .vs))) (now (a .ring)) (a .at .0) (a .q) _ _ _ _ (c .before .before .before .before .before .before .before .corners-at .ensures) (c .before .before .before .before .before .before .flat-at .ensures) (c .before .before .before .before .before .flat-at2 .ensures) (c .before .before .before .before .flat-at3 .ensures) (c .before .before .before .if1 .left) (rw (c .before .before .turn .ensures) at (c .before .if2 .taken))
+    c .test-corners2 .ensures ∙ tells-turned (flats (now (a .xs)) (now (a .ys))) (now (a .ring)) (a .at .0) (a .q) _ _ _ _ (c .before .before .before .before .before .before .before .corners-at .ensures) (c .before .before .before .before .before .before .flat-at .ensures) (c .before .before .before .before .before .flat-at2 .ensures) (c .before .before .before .before .flat-at3 .ensures) (c .before .before .before .if1 .left) (rw (c .before .before .turn .ensures) at (c .before .if2 .taken))
 
 returns-3 : tie.Need-returns-3
 returns-3 c =
     let a = c .before .before .before .before .before .before .before .before .before .before .args in
-    tells-unturned (flats (now (a .us)) (now (a .vs))) (now (a .ring)) (a .at .0) (a .q) _ _ _ _ (c .before .before .before .before .before .before .corners-at .ensures) (c .before .before .before .before .before .flat-at .ensures) (c .before .before .before .before .flat-at2 .ensures) (c .before .before .before .flat-at3 .ensures) (c .before .before .if1 .left) (rw (c .before .turn .ensures) at (c .if2 .left))
+    tells-unturned (flats (now (a .xs)) (now (a .ys))) (now (a .ring)) (a .at .0) (a .q) _ _ _ _ (c .before .before .before .before .before .before .corners-at .ensures) (c .before .before .before .before .before .flat-at .ensures) (c .before .before .before .before .flat-at2 .ensures) (c .before .before .before .flat-at3 .ensures) (c .before .before .if1 .left) (rw (c .before .turn .ensures) at (c .if2 .left))
 
 pub test-place-spec : {M : Type 1} → statement M
 test-place-spec =

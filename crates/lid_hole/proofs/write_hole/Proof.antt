@@ -22,7 +22,7 @@ write-ring-requires c κs =
 returns : tie.Need-returns
 returns c =
     let a = c .before .before .before .before .before .before .before .before .before .before .args in
-    (hole-small (a .outer) (now (a .counts)) (flats (now (a .us)) (now (a .vs))) (a .g) (getD (now (a .counts)) (a .g) 0) (c .before .before .before .before .hole-start .result) (now (a .hole)) refl (c .before .before .before .before .hole-start .ensures) (omega arith) _ (c .before .before .write-ring .ensures .0), hole-written (a .outer) (now (a .counts)) (flats (now (a .us)) (now (a .vs))) (a .g) (getD (now (a .counts)) (a .g) 0) (c .before .before .before .before .hole-start .result) (now (a .hole)) refl (c .before .before .before .before .hole-start .ensures) (omega arith) _ (c .before .before .write-ring .kept .1 .1 .0) (c .before .before .write-ring .ensures .1))
+    (hole-small (a .outer) (now (a .counts)) (flats (now (a .xs)) (now (a .ys))) (a .g) (getD (now (a .counts)) (a .g) 0) (c .before .before .before .before .hole-start .result) (now (a .hole)) refl (c .before .before .before .before .hole-start .ensures) (omega arith) _ (c .before .before .write-ring .ensures .0), hole-written (a .outer) (now (a .counts)) (flats (now (a .xs)) (now (a .ys))) (a .g) (getD (now (a .counts)) (a .g) 0) (c .before .before .before .before .hole-start .result) (now (a .hole)) refl (c .before .before .before .before .hole-start .ensures) (omega arith) _ (c .before .before .write-ring .kept .1 .1 .0) (c .before .before .write-ring .ensures .1))
 
 pub write-hole-spec : {M : Type 1} → statement M
 write-hole-spec =

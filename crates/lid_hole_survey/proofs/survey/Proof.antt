@@ -18,10 +18,10 @@ use Rattle.lid_hole_survey.proofs.survey.Tie as tie
 use denote.Ref.{now}
 
 abbrev Inv-loop : tie.InvT-loop
-Inv-loop us vs outer counts hole₀ rights₀ small₀ log₀ n₀ g₀ hole rights small log n g = (length hole ≡ length hole₀) × (length rights ≡ length rights₀) × (length small ≡ length small₀) × (length log ≡ length log₀) × (g ≤ length counts) × (n ≤ g) × (take g rights ++ list (λ g. right (flats us vs) (turnHole (flats us vs) (holeCorners outer counts g))) (length counts - g) g ≡ rightsOf (flats us vs) outer counts) × (take g small ++ list (λ g. tooSmall (flats us vs) (holeCorners outer counts g)) (length counts - g) g ≡ smallOf (flats us vs) outer counts) × (n + length (skips g (list (λ g. tooSmall (flats us vs) (holeCorners outer counts g)) (length counts - g) g)) ≡ length (skips 0 (smallOf (flats us vs) outer counts))) × (logWith log n (skips g (list (λ g. tooSmall (flats us vs) (holeCorners outer counts g)) (length counts - g) g)) ≡ logWith log₀ 0 (skips 0 (smallOf (flats us vs) outer counts)))
+Inv-loop xs ys outer counts hole₀ rights₀ small₀ log₀ n₀ g₀ hole rights small log n g = (length hole ≡ length hole₀) × (length rights ≡ length rights₀) × (length small ≡ length small₀) × (length log ≡ length log₀) × (g ≤ length counts) × (n ≤ g) × (take g rights ++ list (λ g. right (flats xs ys) (turnHole (flats xs ys) (holeCorners outer counts g))) (length counts - g) g ≡ rightsOf (flats xs ys) outer counts) × (take g small ++ list (λ g. tooSmall (flats xs ys) (holeCorners outer counts g)) (length counts - g) g ≡ smallOf (flats xs ys) outer counts) × (n + length (skips g (list (λ g. tooSmall (flats xs ys) (holeCorners outer counts g)) (length counts - g) g)) ≡ length (skips 0 (smallOf (flats xs ys) outer counts))) × (logWith log n (skips g (list (λ g. tooSmall (flats xs ys) (holeCorners outer counts g)) (length counts - g) g)) ≡ logWith log₀ 0 (skips 0 (smallOf (flats xs ys) outer counts)))
 
 abbrev μ-loop : tie.MeasureT-loop
-μ-loop us vs outer counts hole₀ rights₀ small₀ log₀ n₀ g₀ hole rights small log n g = length counts - g
+μ-loop xs ys outer counts hole₀ rights₀ small₀ log₀ n₀ g₀ hole rights small log n g = length counts - g
 
 loop-holds : tie.Need-loop-holds Inv-loop μ-loop
 loop-holds c = (refl, refl, refl, refl, omega arith, omega arith, simp sub-zero, simp sub-zero, simp (sub-zero, zero-add), simp sub-zero)
@@ -37,7 +37,7 @@ loop-again c =
     let l = c .before .before .before .before .before .before .before .before .before .loop in
     let s = c .before .before .before .before .before .before .survey-hole in
     let p = c .before .before .put-skip in
-    let small : ℕ → Bool = λ g. tooSmall (flats (now (a .us)) (now (a .vs))) (holeCorners (a .outer) (now (a .counts)) g) in
+    let small : ℕ → Bool = λ g. tooSmall (flats (now (a .xs)) (now (a .ys))) (holeCorners (a .outer) (now (a .counts)) g) in
     let more = c .before .before .before .before .before .before .before .before .loop-test .taken in
     let n = length (now (a .counts)) in (
       s .kept .1 .1 .1 .1 .0 ∙ l .inv .0,
@@ -69,7 +69,7 @@ returns c =
     let l = c .before .loop in
     let a = c .before .before .before .before .before .before .before .before .before .args in
     let left = c .loop-test .left in
-    let e = skips-end (λ g. tooSmall (flats (now (a .us)) (now (a .vs))) (holeCorners (a .outer) (now (a .counts)) g)) (length (now (a .counts))) (l .g) left in
+    let e = skips-end (λ g. tooSmall (flats (now (a .xs)) (now (a .ys))) (holeCorners (a .outer) (now (a .counts)) g)) (length (now (a .counts))) (l .g) left in
     (list-put-end _ (l .rights) _ (l .g) (l .inv .6) left (l .inv .4), (list-put-end _ (l .small) _ (l .g) (l .inv .7) left (l .inv .4), (omega (arith, ap length e, l .inv .8), log-end (l .log) _ (l .n) (rw e at (l .inv .9)))))
 
 pub survey-spec : {M : Type 1} → statement M

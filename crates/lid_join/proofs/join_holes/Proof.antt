@@ -9,25 +9,25 @@ use Rattle.lid_join.proofs.join_holes.Tie as tie
 use denote.Ref.{now}
 
 abbrev Inv-loop : tie.InvT-loop
-Inv-loop us vs outer counts order ring₀ m hole₀ log₀ n places₀ entries₀ p₀ ring hole log places entries p = Joining (flats us vs) outer counts order ring₀ hole₀ log₀ m n ring hole log places entries p
+Inv-loop xs ys outer counts order ring₀ m hole₀ log₀ n places₀ entries₀ p₀ ring hole log places entries p = Joining (flats xs ys) outer counts order ring₀ hole₀ log₀ m n ring hole log places entries p
 
 abbrev μ-loop : tie.MeasureT-loop
-μ-loop us vs outer counts order ring₀ m hole₀ log₀ n places₀ entries₀ p₀ ring hole log places entries p = length order - p
+μ-loop xs ys outer counts order ring₀ m hole₀ log₀ n places₀ entries₀ p₀ ring hole log places entries p = length order - p
 
 loop-holds : tie.Need-loop-holds Inv-loop μ-loop
 loop-holds c =
     let a = c .before .before .before .before .before .before .before .args in
-    join-start (flats (now (a .us)) (now (a .vs))) (a .outer) (now (a .counts)) (now (a .order)) (now (a .ring)) (now (a .hole)) (now (a .log)) (a .m) (a .n) (omega arith) (c .before .before .before .before .before .before .before .pre .1 .0)
+    join-start (flats (now (a .xs)) (now (a .ys))) (a .outer) (now (a .counts)) (now (a .order)) (now (a .ring)) (now (a .hole)) (now (a .log)) (a .m) (a .n) (omega arith) (c .before .before .before .before .before .before .before .pre .1 .0)
 
 join-hole-requires : tie.Need-join-hole-requires Inv-loop μ-loop
 join-hole-requires c κs =
     let a = c .before .before .before .before .before .before .before .before .before .before .before .before .before .args in
-    (c .before .before .before .before .before .before .before .before .before .before .before .before .before .pre .0, (next-fit (flats (now (a .us)) (now (a .vs))) (a .outer) (now (a .counts)) (now (a .order)) (now (a .ring)) (now (a .hole)) (now (a .log)) (a .m) (a .n) (c .before .before .before .before .before .loop .ring) (c .before .before .before .before .before .loop .hole) (c .before .before .before .before .before .loop .log) (c .before .before .before .before .before .loop .places) (c .before .before .before .before .before .loop .entries) (c .before .before .before .before .before .loop .p) (c .before .before .before .before .before .loop .inv) (c .before .before .before .before .loop-test .taken) .0, omega (arith, next-room (flats (now (a .us)) (now (a .vs))) (a .outer) (now (a .counts)) (now (a .order)) (now (a .ring)) (now (a .hole)) (now (a .log)) (a .m) (a .n) (c .before .before .before .before .before .loop .ring) (c .before .before .before .before .before .loop .hole) (c .before .before .before .before .before .loop .log) (c .before .before .before .before .before .loop .places) (c .before .before .before .before .before .loop .entries) (c .before .before .before .before .before .loop .p) (c .before .before .before .before .before .loop .inv) (c .before .before .before .before .loop-test .taken))))
+    (c .before .before .before .before .before .before .before .before .before .before .before .before .before .pre .0, (next-fit (flats (now (a .xs)) (now (a .ys))) (a .outer) (now (a .counts)) (now (a .order)) (now (a .ring)) (now (a .hole)) (now (a .log)) (a .m) (a .n) (c .before .before .before .before .before .loop .ring) (c .before .before .before .before .before .loop .hole) (c .before .before .before .before .before .loop .log) (c .before .before .before .before .before .loop .places) (c .before .before .before .before .before .loop .entries) (c .before .before .before .before .before .loop .p) (c .before .before .before .before .before .loop .inv) (c .before .before .before .before .loop-test .taken) .0, omega (arith, next-room (flats (now (a .xs)) (now (a .ys))) (a .outer) (now (a .counts)) (now (a .order)) (now (a .ring)) (now (a .hole)) (now (a .log)) (a .m) (a .n) (c .before .before .before .before .before .loop .ring) (c .before .before .before .before .before .loop .hole) (c .before .before .before .before .before .loop .log) (c .before .before .before .before .before .loop .places) (c .before .before .before .before .before .loop .entries) (c .before .before .before .before .before .loop .p) (c .before .before .before .before .before .loop .inv) (c .before .before .before .before .loop-test .taken))))
 
 loop-again : tie.Need-loop-again Inv-loop μ-loop
 loop-again c =
     let a = c .before .before .before .before .before .before .before .before .before .before .before .before .before .before .before .before .before .before .before .before .args in
-    join-again (flats (now (a .us)) (now (a .vs))) (a .outer) (now (a .counts)) (now (a .order)) (now (a .ring)) (now (a .hole)) (now (a .log)) (a .m) (a .n) (c .before .before .before .before .before .before .before .before .before .before .before .before .loop .ring) (c .before .before .before .before .before .before .before .before .before .before .before .before .loop .hole) (c .before .before .before .before .before .before .before .before .before .before .before .before .loop .log) (c .before .before .before .before .before .before .before .before .before .before .before .before .loop .places) (c .before .before .before .before .before .before .before .before .before .before .before .before .loop .entries) (c .before .before .before .before .before .before .before .before .before .before .before .before .loop .p) (c .before .before .before .before .before .before .before .before .before .before .before .before .loop .inv) (c .before .before .before .before .before .before .before .before .before .before .before .loop-test .taken) _ _ _ _ (c .before .before .before .before .before .before .join-hole .kept .1 .1 .1 .1 .0) (c .before .before .before .before .before .before .join-hole .kept .1 .1 .1 .1 .1 .1 .0) (c .before .before .before .before .before .before .join-hole .kept .1 .1 .1 .1 .1 .1 .1 .0) (c .before .before .before .before .before .before .join-hole .ensures)
+    join-again (flats (now (a .xs)) (now (a .ys))) (a .outer) (now (a .counts)) (now (a .order)) (now (a .ring)) (now (a .hole)) (now (a .log)) (a .m) (a .n) (c .before .before .before .before .before .before .before .before .before .before .before .before .loop .ring) (c .before .before .before .before .before .before .before .before .before .before .before .before .loop .hole) (c .before .before .before .before .before .before .before .before .before .before .before .before .loop .log) (c .before .before .before .before .before .before .before .before .before .before .before .before .loop .places) (c .before .before .before .before .before .before .before .before .before .before .before .before .loop .entries) (c .before .before .before .before .before .before .before .before .before .before .before .before .loop .p) (c .before .before .before .before .before .before .before .before .before .before .before .before .loop .inv) (c .before .before .before .before .before .before .before .before .before .before .before .loop-test .taken) _ _ _ _ (c .before .before .before .before .before .before .join-hole .kept .1 .1 .1 .1 .0) (c .before .before .before .before .before .before .join-hole .kept .1 .1 .1 .1 .1 .1 .0) (c .before .before .before .before .before .before .join-hole .kept .1 .1 .1 .1 .1 .1 .1 .0) (c .before .before .before .before .before .before .join-hole .ensures)
 
 same-length : tie.Need-same-length Inv-loop μ-loop
 same-length c = c .before .loop .inv .ring-long
@@ -41,7 +41,7 @@ same-length-3 c = c .before .loop .inv .log-long
 returns : tie.Need-returns Inv-loop μ-loop
 returns c =
     let a = c .before .before .before .before .before .before .before .before .before .args in
-    join-end (flats (now (a .us)) (now (a .vs))) (a .outer) (now (a .counts)) (now (a .order)) (now (a .ring)) (now (a .hole)) (now (a .log)) (a .m) (a .n) (c .before .loop .ring) (c .before .loop .hole) (c .before .loop .log) (c .before .loop .places) (c .before .loop .entries) (c .before .loop .p) (c .before .loop .inv) (c .loop-test .left)
+    join-end (flats (now (a .xs)) (now (a .ys))) (a .outer) (now (a .counts)) (now (a .order)) (now (a .ring)) (now (a .hole)) (now (a .log)) (a .m) (a .n) (c .before .loop .ring) (c .before .loop .hole) (c .before .loop .log) (c .before .loop .places) (c .before .loop .entries) (c .before .loop .p) (c .before .loop .inv) (c .loop-test .left)
 
 pub join-holes-spec : {M : Type 1} → statement M
 join-holes-spec =

@@ -11,12 +11,12 @@ use denote.Ref.{now}
 returns : tie.Need-returns
 returns c =
     let a = c .before .before .before .before .before .before .before .before .before .before .before .before .before .before .before .args in
-    (ring-small (flats (now (a .us)) (now (a .vs))) (a .outer) (a .from) (length (now (a .ring))) (c .before .before .before .before .before .before .before .before .before .before .fill .last .0) (c .before .before .before .before .before .before .area .result) (c .before .before .before .before .before .before .before .before .before .before .fill .ensures) (c .before .before .before .before .before .before .area .ensures) (c .before .before .before .before .before .abs .result) (c .before .before .before .before .before .abs .ensures), ring-back (flats (now (a .us)) (now (a .vs))) (a .outer) (a .from) (length (now (a .ring))) (c .before .before .before .before .before .before .before .before .before .before .fill .last .0) (c .before .before .before .before .before .before .area .result) (c .before .before .before .before .before .before .before .before .before .before .fill .ensures) (c .before .before .before .before .before .before .area .ensures) _ (c .before .before .before .before .if1 .taken) (c .before .before .fill-down .ensures))
+    (ring-small (flats (now (a .xs)) (now (a .ys))) (a .outer) (a .from) (length (now (a .ring))) (c .before .before .before .before .before .before .before .before .before .before .fill .last .0) (c .before .before .before .before .before .before .area .result) (c .before .before .before .before .before .before .before .before .before .before .fill .ensures) (c .before .before .before .before .before .before .area .ensures) (c .before .before .before .before .before .abs .result) (c .before .before .before .before .before .abs .ensures), ring-back (flats (now (a .xs)) (now (a .ys))) (a .outer) (a .from) (length (now (a .ring))) (c .before .before .before .before .before .before .before .before .before .before .fill .last .0) (c .before .before .before .before .before .before .area .result) (c .before .before .before .before .before .before .before .before .before .before .fill .ensures) (c .before .before .before .before .before .before .area .ensures) _ (c .before .before .before .before .if1 .taken) (c .before .before .fill-down .ensures))
 
 returns-2 : tie.Need-returns-2
 returns-2 c =
     let a = c .before .before .before .before .before .before .before .before .before .before .before .args in
-    (ring-small (flats (now (a .us)) (now (a .vs))) (a .outer) (a .from) (length (now (a .ring))) (c .before .before .before .before .before .before .fill .last .0) (c .before .before .area .result) (c .before .before .before .before .before .before .fill .ensures) (c .before .before .area .ensures) (c .before .abs .result) (c .before .abs .ensures), ring-kept (flats (now (a .us)) (now (a .vs))) (a .outer) (a .from) (length (now (a .ring))) (c .before .before .before .before .before .before .fill .last .0) (c .before .before .area .result) (c .before .before .before .before .before .before .fill .ensures) (c .before .before .area .ensures) (c .if1 .left))
+    (ring-small (flats (now (a .xs)) (now (a .ys))) (a .outer) (a .from) (length (now (a .ring))) (c .before .before .before .before .before .before .fill .last .0) (c .before .before .area .result) (c .before .before .before .before .before .before .fill .ensures) (c .before .before .area .ensures) (c .before .abs .result) (c .before .abs .ensures), ring-kept (flats (now (a .xs)) (now (a .ys))) (a .outer) (a .from) (length (now (a .ring))) (c .before .before .before .before .before .before .fill .last .0) (c .before .before .area .result) (c .before .before .before .before .before .before .fill .ensures) (c .before .before .area .ensures) (c .if1 .left))
 
 pub write-ring-spec : {M : Type 1} → statement M
 write-ring-spec =

@@ -23,17 +23,17 @@ write-ring-requires c κs = let a = c .before .before .before .before .before .b
 returns : tie.Need-returns
 returns c =
     let a = c .before .before .before .before .before .before .before .before .before .before .before .before .before .before .before .before .args in
-    lid-small (flats (now (a .us)) (now (a .vs))) (a .outer) (now (a .counts)) (now (a .log)) (c .before .before .put-entry .last .0) (now (a .triangles)) (outer-small (flats (now (a .us)) (now (a .vs))) (a .outer) (now (a .ring)) (c .before .before .before .before .before .before .before .write-ring .result) true (outer-fits (a .outer) (now (a .counts)) (length (now (a .ring))) (length (now (a .hole))) (c .before .before .before .before .before .before .before .before .before .before .before .before .before .before .before .before .pre)) (c .before .before .before .before .before .before .before .write-ring .ensures .0) (c .before .before .before .before .if1 .taken)) (c .before .before .put-entry .ensures)
+    lid-small (flats (now (a .xs)) (now (a .ys))) (a .outer) (now (a .counts)) (now (a .log)) (c .before .before .put-entry .last .0) (now (a .triangles)) (outer-small (flats (now (a .xs)) (now (a .ys))) (a .outer) (now (a .ring)) (c .before .before .before .before .before .before .before .write-ring .result) true (outer-fits (a .outer) (now (a .counts)) (length (now (a .ring))) (length (now (a .hole))) (c .before .before .before .before .before .before .before .before .before .before .before .before .before .before .before .before .pre)) (c .before .before .before .before .before .before .before .write-ring .ensures .0) (c .before .before .before .before .if1 .taken)) (c .before .before .put-entry .ensures)
 
 cut-open-requires : tie.Need-cut-open-requires
 cut-open-requires c κs =
     let a = c .before .before .before .before .before .before .before .before .before .before .before .before .before .before .before .before .args in
-    (outer-kept (a .outer) (now (a .counts)) (now (a .ring)) (length (now (a .hole))) (c .before .before .before .before .before .before .before .write-ring .last .1 .1 .0) (c .before .before .before .before .before .before .before .write-ring .kept .1 .1 .0) (c .before .before .before .before .before .before .before .before .before .before .before .before .before .before .before .before .pre), outer-stands (flats (now (a .us)) (now (a .vs))) (a .outer) (now (a .ring)) (c .before .before .before .before .before .before .before .write-ring .last .1 .1 .0) (outer-fits (a .outer) (now (a .counts)) (length (now (a .ring))) (length (now (a .hole))) (c .before .before .before .before .before .before .before .before .before .before .before .before .before .before .before .before .pre)) (c .before .before .before .before .before .before .before .write-ring .kept .1 .1 .0) (c .before .before .before .before .before .before .before .write-ring .ensures .1))
+    (outer-kept (a .outer) (now (a .counts)) (now (a .ring)) (length (now (a .hole))) (c .before .before .before .before .before .before .before .write-ring .last .1 .1 .0) (c .before .before .before .before .before .before .before .write-ring .kept .1 .1 .0) (c .before .before .before .before .before .before .before .before .before .before .before .before .before .before .before .before .pre), outer-stands (flats (now (a .xs)) (now (a .ys))) (a .outer) (now (a .ring)) (c .before .before .before .before .before .before .before .write-ring .last .1 .1 .0) (outer-fits (a .outer) (now (a .counts)) (length (now (a .ring))) (length (now (a .hole))) (c .before .before .before .before .before .before .before .before .before .before .before .before .before .before .before .before .pre)) (c .before .before .before .before .before .before .before .write-ring .kept .1 .1 .0) (c .before .before .before .before .before .before .before .write-ring .ensures .1))
 
 returns-2 : tie.Need-returns-2
 returns-2 c =
     let a = c .before .before .before .before .before .before .before .before .before .before .before .before .before .before .before .before .before .before .before .before .before .before .before .before .before .args in
-    lid-open (flats (now (a .us)) (now (a .vs))) (a .outer) (now (a .counts)) (now (a .log)) (c .before .before .before .before .before .before .before .before .cut-open .last .1 .1 .1 .1 .1 .1 .0) (now (a .triangles)) (c .before .before .before .before .before .before .before .before .cut-open .last .1 .1 .1 .1 .1 .1 .1 .0) (c .before .before .before .before .before .before .before .before .cut-open .result) (outer-small (flats (now (a .us)) (now (a .vs))) (a .outer) (now (a .ring)) (c .before .before .before .before .before .before .before .before .before .before .before .before .before .before .before .before .write-ring .result) false (outer-fits (a .outer) (now (a .counts)) (length (now (a .ring))) (length (now (a .hole))) (c .before .before .before .before .before .before .before .before .before .before .before .before .before .before .before .before .before .before .before .before .before .before .before .before .before .pre)) (c .before .before .before .before .before .before .before .before .before .before .before .before .before .before .before .before .write-ring .ensures .0) (c .before .before .before .before .before .before .before .before .before .before .before .before .before .if1 .left)) (c .before .before .before .before .before .before .before .before .cut-open .ensures)
+    lid-open (flats (now (a .xs)) (now (a .ys))) (a .outer) (now (a .counts)) (now (a .log)) (c .before .before .before .before .before .before .before .before .cut-open .last .1 .1 .1 .1 .1 .1 .0) (now (a .triangles)) (c .before .before .before .before .before .before .before .before .cut-open .last .1 .1 .1 .1 .1 .1 .1 .0) (c .before .before .before .before .before .before .before .before .cut-open .result) (outer-small (flats (now (a .xs)) (now (a .ys))) (a .outer) (now (a .ring)) (c .before .before .before .before .before .before .before .before .before .before .before .before .before .before .before .before .write-ring .result) false (outer-fits (a .outer) (now (a .counts)) (length (now (a .ring))) (length (now (a .hole))) (c .before .before .before .before .before .before .before .before .before .before .before .before .before .before .before .before .before .before .before .before .before .before .before .before .before .pre)) (c .before .before .before .before .before .before .before .before .before .before .before .before .before .before .before .before .write-ring .ensures .0) (c .before .before .before .before .before .before .before .before .before .before .before .before .before .if1 .left)) (c .before .before .before .before .before .before .before .before .cut-open .ensures)
 
 same-length : tie.Need-same-length
 same-length c = length-front (now (c .before .before .before .before .before .before .before .before .before .before .before .before .before .before .before .before .args .ring)) (c .before .before .before .before .before .before .before .write-ring .last .1 .1 .0) (c .before .before .before .before .before .before .before .before .before .before .before .before .before .before .before .before .args .outer) (c .before .before .before .before .before .before .before .write-ring .kept .1 .1 .0)

@@ -28,7 +28,7 @@ known (inf s) t = absurd t
 known (fin s m e) t = refl
 
 flats-known : (fs : List Flat) → Each NearF fs → FlatsKnown fs
-flats-known fs n = each-imp NearF (λ (f : Flat). (isFinite (f .u) ≡ true) × (isFinite (f .v) ≡ true)) (λ f n. (known (f .u) (n .u .known), known (f .v) (n .v .known))) fs n
+flats-known fs n = each-imp NearF (λ (f : Flat). (isFinite (f .x) ≡ true) × (isFinite (f .y) ≡ true)) (λ f n. (known (f .x) (n .x .known), known (f .y) (n .y .known))) fs n
 
 pub areas-hold : (s : Shape) → FlatShape s → AreasHold s (logOf s)
 unfolding outlineLid logOf

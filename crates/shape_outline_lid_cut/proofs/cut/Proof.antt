@@ -27,5 +27,5 @@ pub cut-spec : {M : Type 1} → statement M
 cut-spec =
     tie.close
     (tie.spec (λ c. omega (arith, c .before .before .before .before .before .pre .0 .placed .counted .total, c .before .before .before .before .before .pre .0 .placed .counted .most)) (λ c. omega (arith, c .before .before .before .before .before .before .pre .0 .place, c .before .before .before .before .before .before .pre .0 .placed .inside)) lay-flat-requires (λ c. omega (arith, c .before .before .before .before .before .before .before .before .before .before .before .pre .0 .placed .inside)) (λ c. refl)
-    (λ c κs. (omega (arith, c .before .before .before .before .before .before .before .before .before .before .before .before .pre .0 .placed .inside, c .before .before .before .before .before .before .before .before .before .before .before .before .pre .0 .placed .counted .few), omega (arith, c .before .before .before .before .before .before .before .before .before .before .before .before .pre .0 .placed .counted .few))) (λ c. sym (length-take-le _ _ (omega (arith, c .before .before .before .before .before .before .before .before .before .before .before .before .before .before .before .before .pre .1, c .before .before .before .before .before .before .before .scratch .given)))) (λ c. omega (arith, c .before .before .before .before .before .before .before .before .before .before .before .before .before .before .before .before .pre .0 .placed .counted .total, c .before .before .before .before .before .before .before .before .before .before .before .before .before .before .before .before .pre .0 .placed .counted .most)) (λ c. omega (arith, c .before .before .before .before .before .before .before .before .before .before .before .before .before .before .before .before .pre .1, c .before .before .before .before .before .before .before .scratch .given)) (λ c. omega (arith, c .before .before .before .before .before .before .before .before .before .before .before .before .before .before .before .before .pre .1, c .before .before .before .before .before .before .before .scratch .given)) (λ c. omega (arith, c .before .before .before .before .before .before .before .before .before .before .before .before .before .before .before .before .pre .1, c .before .before .before .before .before .before .before .scratch .given))
-    (λ c. omega (arith, c .before .before .before .before .before .before .before .before .before .before .before .before .before .before .before .before .before .pre .0 .placed .counted .few, c .before .before .before .counts2 .given)) (λ c. sym (length-take-le _ _ (omega (arith, c .before .before .before .before .before .before .before .before .before .before .before .before .before .before .before .before .before .before .pre .0 .placed .counted .few, c .before .before .before .before .counts2 .given)))) triangulate-requires (λ c. c .before .before .before .before .before .before .before .before .before .before .before .before .before .before .before .before .scratch .given) (λ c. c .before .before .before .log .given) (λ c. c .before .triangles .given) returns)
+    (λ c κs. (omega (arith, c .before .before .before .before .before .before .before .before .before .before .before .before .pre .0 .placed .inside, c .before .before .before .before .before .before .before .before .before .before .before .before .pre .0 .placed .counted .few), omega (arith, c .before .before .before .before .before .before .before .before .before .before .before .before .pre .0 .placed .counted .few))) (λ c. sym (length-take-le _ _ (omega (arith, c .before .before .before .before .before .before .before .before .before .before .before .before .before .before .before .before .pre .1, c .before .before .before .before .before .before .before .work .given)))) (λ c. omega (arith, c .before .before .before .before .before .before .before .before .before .before .before .before .before .before .before .before .pre .0 .placed .counted .total, c .before .before .before .before .before .before .before .before .before .before .before .before .before .before .before .before .pre .0 .placed .counted .most)) (λ c. omega (arith, c .before .before .before .before .before .before .before .before .before .before .before .before .before .before .before .before .pre .1, c .before .before .before .before .before .before .before .work .given)) (λ c. omega (arith, c .before .before .before .before .before .before .before .before .before .before .before .before .before .before .before .before .pre .1, c .before .before .before .before .before .before .before .work .given)) (λ c. omega (arith, c .before .before .before .before .before .before .before .before .before .before .before .before .before .before .before .before .pre .1, c .before .before .before .before .before .before .before .work .given))
+    (λ c. omega (arith, c .before .before .before .before .before .before .before .before .before .before .before .before .before .before .before .before .before .pre .0 .placed .counted .few, c .before .before .before .counts2 .given)) (λ c. sym (length-take-le _ _ (omega (arith, c .before .before .before .before .before .before .before .before .before .before .before .before .before .before .before .before .before .before .pre .0 .placed .counted .few, c .before .before .before .before .counts2 .given)))) triangulate-requires (λ c. c .before .before .before .before .before .before .before .before .before .before .before .before .before .before .before .before .work .given) (λ c. c .before .before .before .log .given) (λ c. c .before .triangles .given) returns)

@@ -14,10 +14,10 @@ use Rattle.shape_outline_lid_cut.proofs.lay_flat.Statement.{statement}
 use Rattle.shape_outline_lid_cut.proofs.lay_flat.Tie as tie
 
 abbrev Inv-loop : tie.InvT-loop
-Inv-loop s at n scratch₀ e1 e2 k₀ scratch k = (k ≤ n) × (length scratch ≡ length scratch₀) × (take k scratch ≡ list (λ j. flatOn (pointAt s at) e1 e2 (pointAt s (at + 24 * j)) .u) k 0) × (take k (drop n scratch) ≡ list (λ j. flatOn (pointAt s at) e1 e2 (pointAt s (at + 24 * j)) .v) k 0)
+Inv-loop s at n work₀ e1 e2 k₀ work k = (k ≤ n) × (length work ≡ length work₀) × (take k work ≡ list (λ j. flatOn (pointAt s at) e1 e2 (pointAt s (at + 24 * j)) .x) k 0) × (take k (drop n work) ≡ list (λ j. flatOn (pointAt s at) e1 e2 (pointAt s (at + 24 * j)) .y) k 0)
 
 abbrev μ-loop : tie.MeasureT-loop
-μ-loop s at n scratch₀ e1 e2 k₀ scratch k = n - k
+μ-loop s at n work₀ e1 e2 k₀ work k = n - k
 
 loop-holds : tie.Need-loop-holds Inv-loop μ-loop
 unfolding list
@@ -34,8 +34,8 @@ loop-again c =
     let flat : ℕ → Flat = λ j. flatOn (pointAt s (a .at)) e1 e2 (pointAt s (a .at + 24 * j)) in
     let e = c .flat-corner .ensures ∙ ap₂ (λ (o p : Point). flatOn o e1 e2 p) (c .before .before .point-at .ensures) (c .before .point-at2 .ensures) in
     let below = c .before .before .before .loop-test .taken in
-    let fits : 2 * a .n ≤ length (l .scratch) = omega (arith, l .inv .1, z .pre .1) in
-    (omega arith, simp length-set (l .inv .1), first-next (λ j. flat j .u) (λ j. flat j .v) (l .scratch) (a .n) (l .k) _ _ below fits (ap (λ (f : Flat). f .u) e) (l .inv .2), second-next (λ j. flat j .u) (λ j. flat j .v) (l .scratch) (a .n) (l .k) _ _ below fits (ap (λ (f : Flat). f .v) e) (l .inv .3))
+    let fits : 2 * a .n ≤ length (l .work) = omega (arith, l .inv .1, z .pre .1) in
+    (omega arith, simp length-set (l .inv .1), first-next (λ j. flat j .x) (λ j. flat j .y) (l .work) (a .n) (l .k) _ _ below fits (ap (λ (f : Flat). f .x) e) (l .inv .2), second-next (λ j. flat j .x) (λ j. flat j .y) (l .work) (a .n) (l .k) _ _ below fits (ap (λ (f : Flat). f .y) e) (l .inv .3))
 
 returns : tie.Need-returns Inv-loop μ-loop
 returns c =
@@ -44,7 +44,7 @@ returns c =
     let l = c .before .loop in
     let flat : ℕ → Flat = λ j. flatOn (pointAt s (a .at)) (c .before .before .before .first-axis .result) (c .before .before .cross .result) (pointAt s (a .at + 24 * j)) in
     let end : l .k ≡ a .n = omega arith in
-    laid-flat s (a .n) (a .at) (a .lid) _ _ _ _ (c .before .before .before .first-axis .ensures) (c .before .before .cross .ensures) (front-end (λ j. flat j .u) (l .scratch) (a .n) (l .k) end (l .inv .2)) (front-end (λ j. flat j .v) (drop (a .n) (l .scratch)) (a .n) (l .k) end (l .inv .3))
+    laid-flat s (a .n) (a .at) (a .lid) _ _ _ _ (c .before .before .before .first-axis .ensures) (c .before .before .cross .ensures) (front-end (λ j. flat j .x) (l .work) (a .n) (l .k) end (l .inv .2)) (front-end (λ j. flat j .y) (drop (a .n) (l .work)) (a .n) (l .k) end (l .inv .3))
 
 pub lay-flat-spec : {M : Type 1} → statement M
 lay-flat-spec =
