@@ -23,7 +23,11 @@ use Rattle.mesh.specs.Mesh.{keptBy}
 use Rattle.mesh.specs.Operations.{output, countsOf}
 use Rattle.mesh.proofs.Rooms.{numbers-within}
 use Rattle.mesh_bound.specs.declared.Most.{Most}
-use Rattle.mesh_bound.specs.Most.{ofShape, solidMost, outlineMost, sweepMost, mostOf, exactOf, nothing as none, together, inPart, partOf, partOfAll, numbersOf, mostCounts}
+use Rattle.mesh_bound.specs.declared.Group.{Group}
+use Rattle.mesh_bound.specs.declared.Group.the-variants.{Lids, Others}
+use Rattle.mesh_bound.specs.declared.Counting.{Counting}
+use Rattle.mesh_bound.specs.declared.Counting.the-variants.{Exact, Highest}
+use Rattle.mesh_bound.specs.Most.{ofShape, solidMost, outlineMost, sweepMost, mostOf, exactOf, nothing as none, together, inGroup, countedBy, boundIn, boundOfAll, numbersOf, mostCounts}
 use Rattle.mesh_bound.proofs.Exact.{exact-counts}
 
 pub record AtMost (a b : Most) : Type 0 where
@@ -74,24 +78,24 @@ module _ (limit : Float) where
 
   -- ---- all objects
 
-  part-within : (lids exact : Bool) (sh : Shape) → AtMost (partOf lids true limit sh) (partOf lids exact limit sh)
-  unfolding partOf
-  part-within lids true sh = same _
-  part-within lids false sh = by-part (inPart lids sh)
+  group-within : (group : Group) (counting : Counting) (sh : Shape) → AtMost (boundIn group Exact limit sh) (boundIn group counting limit sh)
+  unfolding boundIn countedBy
+  group-within group Exact sh = same _
+  group-within group Highest sh = by-group (inGroup group sh)
     where
-      by-part : (b : Bool) → AtMost (cond b (exactOf limit sh) none) (cond b (mostOf sh) none)
-      by-part true = most-within sh
-      by-part false = same none
+      by-group : (b : Bool) → AtMost (cond b (exactOf limit sh) none) (cond b (mostOf sh) none)
+      by-group true = most-within sh
+      by-group false = same none
 
-  all-within : (lids exact : Bool) (os : List Object) → AtMost (partOfAll lids true limit os) (partOfAll lids exact limit os)
-  unfolding partOfAll
-  all-within lids exact [] = same none
-  all-within lids exact (o ∷ os) = both (part-within lids exact (o .shape)) (all-within lids exact os)
+  all-within : (group : Group) (counting : Counting) (os : List Object) → AtMost (boundOfAll group Exact limit os) (boundOfAll group counting limit os)
+  unfolding boundOfAll
+  all-within group counting [] = same none
+  all-within group counting (o ∷ os) = both (group-within group counting (o .shape)) (all-within group counting os)
 
-  pub most-enough : (others lids : Bool) (os : List Object) → LongEnough (mostCounts others lids limit os) (countsOf (output limit os))
+  pub most-enough : (others lids : Counting) (os : List Object) → LongEnough (mostCounts others lids limit os) (countsOf (output limit os))
   unfolding mostCounts
   most-enough others lids os =
-      subst (LongEnough (mostCounts others lids limit os)) (exact-counts limit os) (within (both (all-within false others os) (all-within true lids os)))
+      subst (LongEnough (mostCounts others lids limit os)) (exact-counts limit os) (within (both (all-within Others others os) (all-within Lids lids os)))
     where
       within : {a b : Most} → AtMost a b → LongEnough (numbersOf b (length os)) (numbersOf a (length os))
       within q = numbers-within (q .vertices) (q .triangles) (q .spans) (le-refl (length os)) (q .entries)

@@ -18,7 +18,9 @@ use Rattle.mesh.specs.Operations.{output, countsOf}
 use Rattle.mesh.proofs.Demand3.Spans.{piece-size}
 use Rattle.mesh.proofs.MeshSizes.{output-counts}
 use Rattle.mesh_bound.specs.declared.Most.{Most}
-use Rattle.mesh_bound.specs.Most.{exactOf, hasLid, nothing as none, together, inPart, partOf, partOfAll, numbersOf, mostCounts}
+use Rattle.mesh_bound.specs.declared.Group.the-variants.{Lids, Others}
+use Rattle.mesh_bound.specs.declared.Counting.the-variants.{Exact}
+use Rattle.mesh_bound.specs.Most.{exactOf, hasLid, nothing as none, together, inGroup, countedBy, boundIn, boundOfAll, numbersOf, mostCounts}
 
 pub together-none : (m : Most) → together m none ≡ m
 together-none m = λ i. record { vertices = add-zero (m .vertices) i; triangles = add-zero (m .triangles) i; spans = add-zero (m .spans) i; entries = add-zero (m .entries) i }
@@ -49,15 +51,15 @@ module _ (limit : Float) where
       let b′ = b + length (q .vertices) in
       omega (arith, length-append (p .vertices) (writeFaces limit a′ fs .vertices), length-append (q .vertices) (writeFaces limit b′ fs .vertices), kept-alike a b f (keptOf limit f), alike a′ b′ fs)
 
-  -- ---- one object, in one of the two parts
+  -- ---- one object, in one of the two groups
 
-  one-part : (lid : Bool) (m : Most) → together (cond (not lid) m none) (cond lid m none) ≡ m
-  one-part true m = none-together m
-  one-part false m = together-none m
+  one-group : (lid : Bool) (m : Most) → together (cond (not lid) m none) (cond lid m none) ≡ m
+  one-group true m = none-together m
+  one-group false m = together-none m
 
-  parts-exact : (sh : Shape) → together (partOf false true limit sh) (partOf true true limit sh) ≡ exactOf limit sh
-  unfolding partOf inPart
-  parts-exact sh = one-part (hasLid sh) (exactOf limit sh)
+  groups-exact : (sh : Shape) → together (boundIn Others Exact limit sh) (boundIn Lids Exact limit sh) ≡ exactOf limit sh
+  unfolding boundIn inGroup countedBy
+  groups-exact sh = one-group (hasLid sh) (exactOf limit sh)
 
   span-exact : (v i : ℕ) (o : Object) → length (spanOf (o .id) v i (pieceOf limit v o)) ≡ exactOf limit (o .shape) .spans
   unfolding spanOf exactOf
@@ -66,31 +68,31 @@ module _ (limit : Float) where
   -- ---- all objects
 
   abbrev all : List Object → Most
-  all os = together (partOfAll false true limit os) (partOfAll true true limit os)
+  all os = together (boundOfAll Others Exact limit os) (boundOfAll Lids Exact limit os)
 
   kept-exact : (os : List Object) → all os .triangles ≡ sumOf (λ (o : Object). keptBy limit (o .shape)) os
-  unfolding sumOf partOfAll exactOf
+  unfolding sumOf boundOfAll exactOf
   kept-exact [] = refl
-  kept-exact (o ∷ os) = omega (arith, ap (λ (m : Most). m .triangles) (parts-exact (o .shape)), kept-exact os)
+  kept-exact (o ∷ os) = omega (arith, ap (λ (m : Most). m .triangles) (groups-exact (o .shape)), kept-exact os)
 
   logs-exact : (os : List Object) → all os .entries ≡ length (logsOf os)
-  unfolding logsOf join partOfAll exactOf
+  unfolding logsOf join boundOfAll exactOf
   logs-exact [] = refl
-  logs-exact (o ∷ os) = omega (arith, ap (λ (m : Most). m .entries) (parts-exact (o .shape)), length-append (logOf (o .shape)) (logsOf os), logs-exact os)
+  logs-exact (o ∷ os) = omega (arith, ap (λ (m : Most). m .entries) (groups-exact (o .shape)), length-append (logOf (o .shape)) (logsOf os), logs-exact os)
 
   mesh-exact : (os : List Object) (v i : ℕ) → (all os .vertices ≡ length (meshFrom limit v i os .vertices)) × (all os .spans ≡ length (meshFrom limit v i os .spans))
-  unfolding meshFrom addPiece partOfAll pieceOf exactOf
+  unfolding meshFrom addPiece boundOfAll pieceOf exactOf
   mesh-exact [] v i = (refl, refl)
   mesh-exact (o ∷ os) v i =
       let p = pieceOf limit v o in
       let m = meshFrom limit (v + length (p .vertices)) (i + length (p .indices)) os in
       let ih = mesh-exact os (v + length (p .vertices)) (i + length (p .indices)) in
-      let e = parts-exact (o .shape) in
+      let e = groups-exact (o .shape) in
       let s = spanOf (o .id) v i p in (
         omega (arith, ih .0, ap (λ (m : Most). m .vertices) e, length-append (p .vertices) (m .vertices), alike v 0 (facesOf (o .shape))),
         omega (arith, ih .1, ap (λ (m : Most). m .spans) e, length-append s (m .spans), span-exact v i o),
       )
 
-  pub exact-counts : (os : List Object) → mostCounts true true limit os ≡ countsOf (output limit os)
+  pub exact-counts : (os : List Object) → mostCounts Exact Exact limit os ≡ countsOf (output limit os)
   unfolding mostCounts
   exact-counts os = (λ i. numbersOf (record { vertices = mesh-exact os 0 0 .0 i; triangles = kept-exact os i; spans = mesh-exact os 0 0 .1 i; entries = logs-exact os i }) (length os)) ∙ output-counts limit os

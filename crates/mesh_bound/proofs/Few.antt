@@ -31,7 +31,7 @@ few-together f g =
       entries = omega (arith, f .entries, g .entries);
     }
 
--- what both parts of n objects take in each buffer fits u32
+-- what both groups of n objects take in each buffer fits u32
 pub few-fit : {a b : Most} {n : ℕ} → Few a mostBytes mostObjects → Few b mostBytes mostObjects → n ≤ mostObjects → FitCounts (numbersOf (together a b) n)
 few-fit p q h =
     numbers-fit _ _ _ _ _ (omega (arith, p .vertices, q .vertices)) (omega (arith, p .triangles, q .triangles)) (omega (arith, p .spans, q .spans)) (omega arith)

@@ -17,6 +17,10 @@ use Rattle.shape.specs.Shapes.{facesOf, logOf}
 use Rattle.mesh.specs.Mesh.{keptBy}
 use Rattle.mesh.specs.PerBuffer.{Counts, numbersFor}
 use Rattle.mesh_bound.specs.declared.Most.{Most}
+use Rattle.mesh_bound.specs.declared.Group.{Group}
+use Rattle.mesh_bound.specs.declared.Group.the-variants.{Lids, Others}
+use Rattle.mesh_bound.specs.declared.Counting.{Counting}
+use Rattle.mesh_bound.specs.declared.Counting.the-variants.{Exact, Highest}
 
 -- so many vertices, triangles and log entries of one shape: a span only where there is a triangle
 abbrev pub ofShape : ℕ → ℕ → ℕ → Most
@@ -59,29 +63,34 @@ hasLid (roundSweep ss) = false
 abbrev pub nothing : Most
 nothing = record { vertices = 0; triangles = 0; spans = 0; entries = 0 }
 
-unfoldable pub inPart : Bool → Shape → Bool
-inPart true sh = hasLid sh
-inPart false sh = not (hasLid sh)
+unfoldable pub inGroup : Group → Shape → Bool
+inGroup Lids sh = hasLid sh
+inGroup Others sh = not (hasLid sh)
 
--- what the shape comes to, or the most of it; nothing for one of the other part
-unfoldable pub partOf : Bool → Bool → Float → Shape → Most
-partOf lids exact limit sh = cond (inPart lids sh) (cond exact (exactOf limit sh) (mostOf sh)) nothing
+-- what the shape comes to, or the most of it
+unfoldable pub countedBy : Counting → Float → Shape → Most
+countedBy Exact limit sh = exactOf limit sh
+countedBy Highest limit sh = mostOf sh
+
+-- nothing for one of the other group
+unfoldable pub boundIn : Group → Counting → Float → Shape → Most
+boundIn group counting limit sh = cond (inGroup group sh) (countedBy counting limit sh) nothing
 
 abbrev pub together : Most → Most → Most
 together a b =
     record { vertices = a .vertices + b .vertices; triangles = a .triangles + b .triangles; spans = a .spans + b .spans; entries = a .entries + b .entries }
 
-unfoldable pub partOfAll : Bool → Bool → Float → List Object → Most
-partOfAll lids exact limit [] = nothing
-partOfAll lids exact limit (o ∷ os) = together (partOf lids exact limit (o .shape)) (partOfAll lids exact limit os)
+unfoldable pub boundOfAll : Group → Counting → Float → List Object → Most
+boundOfAll group counting limit [] = nothing
+boundOfAll group counting limit (o ∷ os) = together (boundIn group counting limit (o .shape)) (boundOfAll group counting limit os)
 
 -- the numbers that n objects take in each buffer
 abbrev pub numbersOf : Most → ℕ → Counts
 numbersOf m n = numbersFor (m .vertices) (m .triangles) (m .spans) n (m .entries)
 
--- by whether the objects without lids, and those with lids, are measured
-unfoldable pub mostCounts : Bool → Bool → Float → List Object → Counts
-mostCounts others lids limit os = numbersOf (together (partOfAll false others limit os) (partOfAll true lids limit os)) (length os)
+-- by how the objects without lids are counted, and how those with lids
+unfoldable pub mostCounts : Counting → Counting → Float → List Object → Counts
+mostCounts others lids limit os = numbersOf (together (boundOfAll Others others limit os) (boundOfAll Lids lids limit os)) (length os)
 
 -- ---- all of it fits the program's numbers
 

@@ -16,6 +16,18 @@ pub struct Most {
     pub entries: u32,
 }
 
+// The objects with lids, and the others: measuring a lid takes cutting it.
+pub enum Group {
+    Lids,
+    Others,
+}
+
+// Whether objects are measured, by drawing them, or counted at the most that their headers allow.
+pub enum Counting {
+    Exact,
+    Highest,
+}
+
 // So many of one shape.
 pub fn of_shape(vertices: u32, triangles: u32, entries: u32) -> Most
     ensures { λ r. ⌜ r ≡ ofShape vertices triangles entries ⌝ }
@@ -89,7 +101,7 @@ pub fn sweep_most(round: bool, sections: u32) -> Most
     of_shape(less(16 * sections, 8), less(8 * sections, 4), 0)
 }
 
-// What two parts of a scene come to.
+// What both groups of a scene's objects come to.
 pub fn add(a: Most, b: Most) -> Most
     requires { ⌜ Few (together a b) 33554432 131072 ⌝ }
     ensures { λ r. ⌜ r ≡ together a b ⌝ }

@@ -18,7 +18,10 @@ use Rattle.scene.proofs.Parts.{corners-length, holes-size, holes-length, counts
 use Rattle.lid.proofs.Facts.{total}
 use Rattle.shape.proofs.Sizes.{sum-lengths}
 use Rattle.mesh_bound.specs.declared.Most.{Most}
-use Rattle.mesh_bound.specs.Most.{ofShape, solidMost, outlineMost, sweepMost, mostOf, inPart, partOf, Few}
+use Rattle.mesh_bound.specs.declared.Group.{Group}
+use Rattle.mesh_bound.specs.declared.Counting.{Counting}
+use Rattle.mesh_bound.specs.declared.Counting.the-variants.{Exact, Highest}
+use Rattle.mesh_bound.specs.Most.{ofShape, solidMost, outlineMost, sweepMost, mostOf, inGroup, countedBy, boundIn, Few}
 use Rattle.mesh_bound.proofs.Bounds.{most-within}
 use Rattle.mesh_bound.proofs.Few.{few-among, few-less}
 
@@ -67,11 +70,13 @@ few-body s i (Outline closed outer holes corners) l =
     (few-among (few-outline closed outer (corners - outer) holes) (omega (arith, l .total)) (omega arith))
 few-body s i (Sweep round n) l = subst (λ (m : Most). Few m (5 + bodySize (Sweep round n)) 1) (most-sweep s i round n) (few-sweep round n)
 
-pub few-bound : (limit : Float) (lids exact : Bool) (s : List ℕ) (i : ℕ) (body : Body) → Limits s i body → Few (partOf lids exact limit (shapeOf s i body)) (5 + bodySize body) 1
-unfolding partOf
-few-bound limit lids exact s i body l =
-    let sh = shapeOf s i body in
-    let f = few-body s i body l in
-    either (λ (m : Most). Few m (5 + bodySize body) 1) (inPart lids sh)
-    (either (λ (m : Most). Few m (5 + bodySize body) 1) exact (few-less (most-within limit sh) f) f)
+few-counted : (limit : Float) (counting : Counting) (s : List ℕ) (i : ℕ) (body : Body) → Limits s i body → Few (countedBy counting limit (shapeOf s i body)) (5 + bodySize body) 1
+unfolding countedBy
+few-counted limit Exact s i body l = few-less (most-within limit (shapeOf s i body)) (few-body s i body l)
+few-counted limit Highest s i body l = few-body s i body l
+
+pub few-bound : (limit : Float) (group : Group) (counting : Counting) (s : List ℕ) (i : ℕ) (body : Body) → Limits s i body → Few (boundIn group counting limit (shapeOf s i body)) (5 + bodySize body) 1
+unfolding boundIn
+few-bound limit group counting s i body l =
+    either (λ (m : Most). Few m (5 + bodySize body) 1) (inGroup group (shapeOf s i body)) (few-counted limit counting s i body l)
     (record { vertices = zero-le; triangles = zero-le; spans = zero-le; entries = zero-le })

@@ -1,6 +1,5 @@
 -- The loop over the records: its invariant at the start, after a record and at the end. Assumes nothing.
 use mathlib.Core.Path.{_≡_, sym, ap, _∙_, subst}
-use mathlib.Core.Bool.{Bool}
 use mathlib.Core.List.{List}
 use Prim.Native.Nat.{ℕ, _+_, _≤_, _<_, zero-le}
 use native.Mathlib.Nat.{add-assoc}
@@ -16,7 +15,9 @@ use Rattle.scene.specs.Headers.{bodyAt, headerAt, shapeOf}
 use Rattle.scene.proofs.Walk.{Walking, walk-object, walk-next, walk-limits, walk-body, walk-inside, AcceptedAs, checked-accepted, trailer-inside}
 use Rattle.shape.specs.Drawn.{CanDraw}
 use Rattle.mesh_bound.specs.declared.Most.{Most}
-use Rattle.mesh_bound.specs.Most.{nothing, together, partOf, partOfAll, Few}
+use Rattle.mesh_bound.specs.declared.Group.{Group}
+use Rattle.mesh_bound.specs.declared.Counting.{Counting}
+use Rattle.mesh_bound.specs.Most.{nothing, together, boundIn, boundOfAll, Few}
 use Rattle.mesh_bound.proofs.Exact.{together-none, none-together}
 use Rattle.mesh_bound.proofs.Few.{few-among, few-together}
 use Rattle.mesh_bound_scene.proofs.Headers.{few-bound}
@@ -29,17 +30,17 @@ together-more a b c = λ i. record {
   entries = add-assoc (a .entries) (b .entries) (c .entries) i;
 }
 
--- k records lie before place `at`, and come to m in this part
-pub record Sums (limit : Float) (lids exact : Bool) (s : List ℕ) (n : ℕ) (m : Most) (at k : ℕ) : Type 0 where
+-- k records lie before place `at`, and come to m in this group
+pub record Sums (limit : Float) (group : Group) (counting : Counting) (s : List ℕ) (n : ℕ) (m : Most) (at k : ℕ) : Type 0 where
   pub known : AcceptedAs s n (objectsOf (scene s))
   pub walking : Walking s (trailer s n) n (objectsOf (scene s)) k at
   pub count : k ≤ n
   pub place : at ≤ trailer s n
   pub few : Few m at k
-  pub same : together m (partOfAll lids exact limit (drop k (objectsOf (scene s)))) ≡ partOfAll lids exact limit (objectsOf (scene s))
+  pub same : together m (boundOfAll group counting limit (drop k (objectsOf (scene s)))) ≡ boundOfAll group counting limit (objectsOf (scene s))
 
-pub sums-start : (limit : Float) (lids exact : Bool) (s : List ℕ) (n : ℕ) → Accepted n ≡ checkedOf (scene s) → Sums limit lids exact s n nothing 0 0
-sums-start limit lids exact s n h =
+pub sums-start : (limit : Float) (group : Group) (counting : Counting) (s : List ℕ) (n : ℕ) → Accepted n ≡ checkedOf (scene s) → Sums limit group counting s n nothing 0 0
+sums-start limit group counting s n h =
     let q = checked-accepted s n h in
     record {
       known = q;
@@ -47,18 +48,18 @@ sums-start limit lids exact s n h =
       count = zero-le;
       place = zero-le;
       few = record { vertices = zero-le; triangles = zero-le; spans = zero-le; entries = zero-le };
-      same = none-together (partOfAll lids exact limit (objectsOf (scene s)));
+      same = none-together (boundOfAll group counting limit (objectsOf (scene s)));
     }
 
-module _ {limit : Float} {lids exact : Bool} {s : List ℕ} {n : ℕ} {m : Most} {at k : ℕ} (w : Sums limit lids exact s n m at k) where
+module _ {limit : Float} {group : Group} {counting : Counting} {s : List ℕ} {n : ℕ} {m : Most} {at k : ℕ} (w : Sums limit group counting s n m at k) where
   abbrev os : List Object
   os = objectsOf (scene s)
 
   abbrev bound : Header → Most
-  bound h = partOf lids exact limit (shapeOf s (at + 5) (h .body))
+  bound h = boundIn group counting limit (shapeOf s (at + 5) (h .body))
 
   abbrev sum : List Object → Most
-  sum = partOfAll lids exact limit
+  sum = boundOfAll group counting limit
 
   module _ (l : k < n) where
     pub record-inside : at < length s
@@ -70,7 +71,7 @@ module _ {limit : Float} {lids exact : Bool} {s : List ℕ} {n : ℕ} {m : Most}
 
     few-next : Few (bound (headerAt s at)) (headerAt s at .size) 1
     unfolding headerAt
-    few-next = few-bound limit lids exact s (at + 5) (bodyAt s (at + 5) (getD s at 0)) (walk-limits (w .walking) l)
+    few-next = few-bound limit group counting s (at + 5) (bodyAt s (at + 5) (getD s at 0)) (walk-limits (w .walking) l)
 
     module _ {h : Header} (e : h ≡ headerAt s at) where
       pub can-read : CanDraw s (at + 5) (h .body) 0
@@ -90,8 +91,8 @@ module _ {limit : Float} {lids exact : Bool} {s : List ℕ} {n : ℕ} {m : Most}
         pub can-sum : Few (together m x) 33554432 131072
         can-sum = let i = place-fits in let few = w .known .few in few-among few-more (omega arith) (omega arith)
 
-        pub sums-next : {m′ : Most} → m′ ≡ together m x → Sums limit lids exact s n m′ (at + h .size) (k + 1)
-        unfolding partOfAll
+        pub sums-next : {m′ : Most} → m′ ≡ together m x → Sums limit group counting s n m′ (at + h .size) (k + 1)
+        unfolding boundOfAll
         sums-next d =
             let y = bound (headerAt s at) in
             let is : x ≡ y = q ∙ ap bound e in
@@ -111,7 +112,7 @@ module _ {limit : Float} {lids exact : Bool} {s : List ℕ} {n : ℕ} {m : Most}
             }
 
   pub sums-end : n ≤ k → Few m 16777216 65536 × ((os′ : List Object) → scene s ≡ accepted os′ → m ≡ sum os′)
-  unfolding partOfAll
+  unfolding boundOfAll
   sums-end h =
       let size = w .known .size in
       let few = w .known .few in

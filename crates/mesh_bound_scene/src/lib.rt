@@ -11,7 +11,9 @@ ghost use Rattle.scene.specs.Scene.{scene, accepted};
 ghost use Rattle.scene.specs.Answers.{checkedOf};
 ghost use Rattle.scene.specs.Headers.{shapeOf, Limits};
 ghost use Rattle.shape.specs.Drawn.{CanDraw};
-ghost use Rattle.mesh_bound.specs.Most.{mostOf, exactOf, hasLid, inPart, partOf, partOfAll, Few};
+ghost use Rattle.mesh_bound.specs.Most.{mostOf, exactOf, hasLid, inGroup, boundIn, boundOfAll, Few};
+use mesh_bound::Counting;
+use mesh_bound::Group;
 use mesh_bound::Most;
 use mesh_bound::add;
 use mesh_bound::of_shape;
@@ -68,21 +70,21 @@ fn has_lid(body: Body) -> bool
     }
 }
 
-fn in_part(body: Body, lids: bool) -> bool
-    ensures { λ r. ⌜ ((s : List ℕ) (i : ℕ) → r ≡ inPart lids (shapeOf s i body)) ⌝ }
+fn in_group(body: Body, group: Group) -> bool
+    ensures { λ r. ⌜ ((s : List ℕ) (i : ℕ) → r ≡ inGroup group (shapeOf s i body)) ⌝ }
 {
-    if lids {
-        return has_lid(body);
+    match group {
+        Group::Lids => has_lid(body),
+        Group::Others => !has_lid(body),
     }
-    !has_lid(body)
 }
 
-// Nothing for an object of the other part.
-fn bound_at(s: &[u8], i: usize, body: Body, limit: f32, lids: bool, exact: bool) -> Most
+// Nothing for an object of the other group.
+fn bound_at(s: &[u8], i: usize, body: Body, limit: f32, group: Group, counting: Counting) -> Most
     requires { ⌜ CanDraw (now s) i body 0 ⌝ }
-    ensures { λ r. ⌜ r ≡ partOf lids exact limit (shapeOf (now (s .entry)) i body) ⌝ }
+    ensures { λ r. ⌜ r ≡ boundIn group counting limit (shapeOf (now (s .entry)) i body) ⌝ }
 {
-    if !in_part(body, lids) {
+    if !in_group(body, group) {
         return Most {
             vertices: 0,
             triangles: 0,
@@ -90,16 +92,16 @@ fn bound_at(s: &[u8], i: usize, body: Body, limit: f32, lids: bool, exact: bool)
             entries: 0,
         };
     }
-    if exact {
-        return exact_at(s, i, body, limit);
+    match counting {
+        Counting::Exact => exact_at(s, i, body, limit),
+        Counting::Highest => most_at(s, i, body),
     }
-    most_at(s, i, body)
 }
 
-// Those of the n objects that have lids, or the others: measured, or the most.
-pub fn part_of_all(s: &[u8], n: u32, limit: f32, lids: bool, exact: bool) -> Most
+// What those of the n objects that are in the group come to.
+pub fn bound_of_all(s: &[u8], n: u32, limit: f32, group: Group, counting: Counting) -> Most
     requires { ⌜ Accepted n ≡ checkedOf (scene (now s)) ⌝ }
-    ensures { λ r. ⌜ Few r mostBytes mostObjects × ((os : List Object) → scene (now (s .entry)) ≡ accepted os → r ≡ partOfAll lids exact limit os) ⌝ }
+    ensures { λ r. ⌜ Few r mostBytes mostObjects × ((os : List Object) → scene (now (s .entry)) ≡ accepted os → r ≡ boundOfAll group counting limit os) ⌝ }
 {
     let mut most = Most {
         vertices: 0,
@@ -112,7 +114,7 @@ pub fn part_of_all(s: &[u8], n: u32, limit: f32, lids: bool, exact: bool) -> Mos
     while k < n {
         let h = header_at(s, at);
         let body = h.body;
-        most = add(most, bound_at(s, at + 5, body, limit, lids, exact));
+        most = add(most, bound_at(s, at + 5, body, limit, group, counting));
         at = at + h.size;
         k = k + 1;
     }

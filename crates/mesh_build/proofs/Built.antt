@@ -1,6 +1,5 @@
 -- What Build plans by the lengths of the lent buffers, and what it answers and leaves. Assumes nothing.
 use mathlib.Core.Path.{_≡_, refl, sym, ap, ap₂, _∙_, subst}
-use mathlib.Core.Bool.{Bool, true, false}
 use mathlib.Core.List.{List}
 use Prim.Native.Nat.{ℕ, _≤_}
 use native.Mathlib.Nat.{le-trans, lt-of-le-of-lt}
@@ -26,9 +25,12 @@ use Rattle.mesh_progress.proofs.Pass.Tails.{sets-over}
 use Rattle.mesh.specs.Demand3.{LongEnough}
 use Rattle.mesh.proofs.Rooms.{lengths-fit, long-enough, enough-room}
 use Rattle.mesh_bound.specs.declared.Most.{Most}
+use Rattle.mesh_bound.specs.declared.Group.the-variants.{Lids, Others}
+use Rattle.mesh_bound.specs.declared.Counting.{Counting}
+use Rattle.mesh_bound.specs.declared.Counting.the-variants.{Exact}
 use Rattle.mesh_bound.specs.Most.{numbersOf, together, Few}
 use Rattle.mesh_bound.proofs.Bounds.{most-enough}
-use Rattle.mesh_bound_scene.proofs.Counts.{SumOf, parts-counts, measured-counts}
+use Rattle.mesh_bound_scene.proofs.Counts.{SumOf, groups-counts, measured-counts}
 use Rattle.mesh_build.specs.declared.Plan.{Plan}
 use Rattle.mesh_build.specs.declared.Plan.the-variants.{Refuse, Write}
 use Rattle.mesh_build.specs.Plan.{PlanBy, PlanHolds}
@@ -70,14 +72,14 @@ module _ (limit : Float) (s : List ℕ) (has : Counts) where
   plan-refused f object h = λ b e. build-refused limit s b f object h
 
   module _ (n : ℕ) (h : Accepted n ≡ checkedOf (scene s)) {a b : Most} where
-    -- with room for both parts, each measured or not
-    pub plan-bounded : (others lids : Bool) → SumOf limit s false others a → SumOf limit s true lids b → {r : Plan} {k : ℕ} → r ≡ Write k → PlanBy has (numbersOf (together a b) n) n r → PlanHolds limit s has (Write n)
+    -- with room for both groups, each measured or not
+    pub plan-bounded : (others lids : Counting) → SumOf limit s Others others a → SumOf limit s Lids lids b → {r : Plan} {k : ℕ} → r ≡ Write k → PlanBy has (numbersOf (together a b) n) n r → PlanHolds limit s has (Write n)
     plan-bounded others lids p q is d =
         let x = subst (PlanBy has (numbersOf (together a b) n) n) is d in
-        (h, λ os e. let most = most-enough limit others lids os in (longer (subst (LongEnough has) (parts-counts limit s n h os e others lids p q) (x .1)) most, fewer (subst FitCounts (parts-counts limit s n h os e others lids p q) (x .2)) most))
+        (h, λ os e. let most = most-enough limit others lids os in (longer (subst (LongEnough has) (groups-counts limit s n h os e others lids p q) (x .1)) most, fewer (subst FitCounts (groups-counts limit s n h os e others lids p q) (x .2)) most))
 
     -- with both measured
-    pub plan-measured : SumOf limit s false true a → SumOf limit s true true b → (r : Plan) → PlanBy has (numbersOf (together a b) n) n r → PlanHolds limit s has r
+    pub plan-measured : SumOf limit s Others Exact a → SumOf limit s Lids Exact b → (r : Plan) → PlanBy has (numbersOf (together a b) n) n r → PlanHolds limit s has r
     unfolding buildScene
     plan-measured p q (Refuse x object) d =
         λ lent f. build-accepted limit s lent n (refusedBuild x object lent) h (λ os e. d (output limit os) lent ∙ ap₂ (λ (x y : Counts). buildOutput (output limit os) lent (tooShort x y)) (sym f) (measured-counts limit s n h os e p q))

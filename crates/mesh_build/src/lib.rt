@@ -17,8 +17,10 @@ use float::MIN_AREA;
 use mesh::Room;
 use mesh_answer::Answered;
 use mesh_answer::Lengths;
+use mesh_bound::Counting;
+use mesh_bound::Group;
 use mesh_bound::Most;
-use mesh_bound_scene::part_of_all;
+use mesh_bound_scene::bound_of_all;
 use mesh_room::bound_counts;
 use mesh_room::room;
 use refusal::Refusal;
@@ -30,8 +32,8 @@ pub enum Plan {
     Write(u32),
 }
 
-// By what both parts of n objects come to.
-fn plan_parts(has: Lengths, others: Most, lids: Most, n: u32) -> Plan
+// By what both groups of n objects come to.
+fn plan_bounds(has: Lengths, others: Most, lids: Most, n: u32) -> Plan
     requires { ⌜ Few others mostBytes mostObjects × Few lids mostBytes mostObjects × (n ≤ mostObjects) ⌝ }
     ensures { λ r. ⌜ PlanBy (lengthsFrom has) (numbersOf (together others lids) n) n r ⌝ }
 {
@@ -48,16 +50,21 @@ fn plan_objects(s: &[u8], n: u32, limit: f32, has: Lengths) -> Plan
     requires { ⌜ Accepted n ≡ checkedOf (scene (now s)) ⌝ }
     ensures { λ r. ⌜ PlanHolds limit (now (s .entry)) (lengthsFrom has) r ⌝ }
 {
-    let lids = part_of_all(s, n, limit, true, false);
-    let most = part_of_all(s, n, limit, false, false);
-    if let Plan::Write(_) = plan_parts(has, most, lids, n) {
+    let lids = bound_of_all(s, n, limit, Group::Lids, Counting::Highest);
+    let most = bound_of_all(s, n, limit, Group::Others, Counting::Highest);
+    if let Plan::Write(_) = plan_bounds(has, most, lids, n) {
         return Plan::Write(n);
     }
-    let others = part_of_all(s, n, limit, false, true);
-    if let Plan::Write(_) = plan_parts(has, others, lids, n) {
+    let others = bound_of_all(s, n, limit, Group::Others, Counting::Exact);
+    if let Plan::Write(_) = plan_bounds(has, others, lids, n) {
         return Plan::Write(n);
     }
-    plan_parts(has, others, part_of_all(s, n, limit, true, true), n)
+    plan_bounds(
+        has,
+        others,
+        bound_of_all(s, n, limit, Group::Lids, Counting::Exact),
+        n,
+    )
 }
 
 fn plan_scene(s: &[u8], limit: f32, has: Lengths) -> Plan

@@ -6,19 +6,21 @@ ghost use Rattle.mesh_answer.specs.Answers.{answerOf};
 ghost use Rattle.mesh_measure.specs.Bounds.{boundScene};
 use float::MIN_AREA;
 use mesh_answer::Answered;
-use mesh_bound_scene::part_of_all;
+use mesh_bound::Counting;
+use mesh_bound::Group;
+use mesh_bound_scene::bound_of_all;
 use mesh_room::bound_counts;
 use scene::scenes::Checked;
 
 // What the objects take in each buffer at a limit below which a triangle is thin: measured, or the most that they can take.
-pub fn count_scene(s: &[u8], limit: f32, exact: bool) -> Answered
-    ensures { λ r. ⌜ answerOf r ≡ boundScene exact limit (scene (now (s .entry))) ⌝ }
+pub fn count_scene(s: &[u8], limit: f32, counting: Counting) -> Answered
+    ensures { λ r. ⌜ answerOf r ≡ boundScene counting limit (scene (now (s .entry))) ⌝ }
 {
     match scene_check::check_scene(s) {
         Checked::Refused(f, object) => Answered::Refused(f, object),
         Checked::Accepted(n) => {
-            let others = part_of_all(s, n, limit, false, exact);
-            let lids = part_of_all(s, n, limit, true, exact);
+            let others = bound_of_all(s, n, limit, Group::Others, counting);
+            let lids = bound_of_all(s, n, limit, Group::Lids, counting);
             Answered::Counts(bound_counts(others, lids, n))
         }
     }
@@ -27,5 +29,5 @@ pub fn count_scene(s: &[u8], limit: f32, exact: bool) -> Answered
 pub fn measure(s: &[u8]) -> Answered
     ensures { λ r. ⌜ answerOf r ≡ measure (now (s .entry)) ⌝ }
 {
-    count_scene(s, MIN_AREA, true)
+    count_scene(s, MIN_AREA, Counting::Exact)
 }

@@ -14,7 +14,7 @@ use mesh_bound::Most;
 use mesh_bound::add;
 use refusal::Refusal;
 
-// The numbers that n objects take in each buffer, by what the two parts of them come to.
+// The numbers that n objects take in each buffer, by what both groups of them come to.
 pub fn bound_counts(others: Most, lids: Most, n: u32) -> Counted
     requires { ⌜ Few others mostBytes mostObjects × Few lids mostBytes mostObjects × (n ≤ mostObjects) ⌝ }
     ensures { λ r. ⌜ countsFrom r ≡ numbersOf (together others lids) n ⌝ }

@@ -1,15 +1,15 @@
--- `mesh_bound_scene::part_of_all` meets its contract. Assumes nothing.
+-- `mesh_bound_scene::bound_of_all` meets its contract. Assumes nothing.
 use Prim.Native.Nat.{_-_}
 use native.Mathlib.Omega.{arith}
 use Rattle.mesh_bound_scene.proofs.Sums.{Sums, sums-start, record-inside, can-read, place-fits, can-sum, sums-next, sums-end}
-use Rattle.mesh_bound_scene.proofs.part_of_all.Statement.{statement}
-use Rattle.mesh_bound_scene.proofs.part_of_all.Tie as tie
+use Rattle.mesh_bound_scene.proofs.bound_of_all.Statement.{statement}
+use Rattle.mesh_bound_scene.proofs.bound_of_all.Tie as tie
 
 abbrev Inv-loop : tie.InvT-loop
-Inv-loop s n limit lids exact most₀ at₀ k₀ most at k = Sums limit lids exact s n most at k
+Inv-loop s n limit group counting most₀ at₀ k₀ most at k = Sums limit group counting s n most at k
 
 abbrev μ-loop : tie.MeasureT-loop
-μ-loop s n limit lids exact most₀ at₀ k₀ most at k = n - k
+μ-loop s n limit group counting most₀ at₀ k₀ most at k = n - k
 
 loop-holds : tie.Need-loop-holds Inv-loop μ-loop
 loop-holds c = sums-start _ _ _ _ _ (c .before .pre)
@@ -35,8 +35,8 @@ loop-again c = sums-next (c .before .before .before .before .before .loop .inv) 
 returns : tie.Need-returns Inv-loop μ-loop
 returns c = sums-end (c .before .loop .inv) (c .loop-test .left)
 
-pub part-of-all-spec : {M : Type 1} → statement M
-part-of-all-spec =
+pub bound-of-all-spec : {M : Type 1} → statement M
+bound-of-all-spec =
     tie.close
     (tie.spec Inv-loop μ-loop loop-holds header-at-requires add-bound-at bound-at-requires add-requires add-at (λ c. omega arith) (λ c. omega arith)
     loop-again returns)
