@@ -12,26 +12,15 @@ use Rattle.decimal.specs.Texts.{HasRoom, Wrote}
 use Rattle.decimal.proofs.Digits.{decimal-one, decimal-two, decimal-two-more, size-two-more, some-digit}
 use Rattle.decimal.proofs.Texts.{end-first}
 
-two-stores : (l : List ℕ) (i x y : ℕ) → set (set l i x) (i + 1) y ≡ sets l i (x ∷ y ∷ [])
-two-stores l i x y = rw add-one
-
--- a pair of digits, the first in the lower byte
-pub pair-stored : (l : List ℕ) (i two both : ℕ) → two < 100 → both ≡ 48 + two / 10 + 256 * (48 + two % 10) → set (set l i (both % 256)) (i + 1) (both / 256) ≡ sets l i ((48 + two / 10) ∷ (48 + two % 10) ∷ [])
-pair-stored l i two both h e =
-    let f : both % 256 ≡ 48 + two / 10 = omega arith in
-    let g : both / 256 ≡ 48 + two % 10 = omega arith in
-    two-stores l i (both % 256) (both / 256) ∙ ap (λ (z : ℕ). sets l i (z ∷ (both / 256) ∷ [])) f ∙ ap (λ (z : ℕ). sets l i ((48 + two / 10) ∷ z ∷ [])) g
+pub pair-stored : (l : List ℕ) (i two x y : ℕ) → x ≡ 48 + two / 10 → y ≡ 48 + two % 10 → set (set l i x) (i + 1) y ≡ sets l i ((48 + two / 10) ∷ (48 + two % 10) ∷ [])
+pair-stored l i two x y e f = rw (e, f, add-one)
 
 module _ (old : List ℕ) (at n : ℕ) where
   pub short-one : (x : ℕ) → n < 10 → x ≡ 48 + n → Wrote old at (decimal n) (set old at x) (at + length (decimal n))
   short-one x h e = record { place = refl; stored = rw (e, decimal-one n h) }
 
-  pub short-two : (x y : ℕ) → 10 ≤ n → n < 100 → x ≡ 48 + n / 10 → y ≡ 48 + n % 10 → Wrote old at (decimal n) (set (set old at x) (at + 1) y) (at + length (decimal n))
-  short-two x y h k e f =
-      record {
-        place = refl;
-        stored = two-stores old at x y ∙ ap (λ (z : ℕ). sets old at (z ∷ y ∷ [])) e ∙ ap (λ (z : ℕ). sets old at ((48 + n / 10) ∷ z ∷ [])) f ∙ ap (sets old at) (sym (decimal-two n h k));
-      }
+  pub short-two : {text : List ℕ} → 10 ≤ n → n < 100 → text ≡ sets old at ((48 + n / 10) ∷ (48 + n % 10) ∷ []) → Wrote old at (decimal n) text (at + length (decimal n))
+  short-two h k e = record { place = refl; stored = e ∙ ap (sets old at) (sym (decimal-two n h k)) }
 
   -- the digits of `rest` are still to be stored, before place i
   pub record Ending (text : List ℕ) (i rest : ℕ) : Type 0 where

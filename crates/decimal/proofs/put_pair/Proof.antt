@@ -6,8 +6,8 @@ use Rattle.decimal.proofs.put_pair.Tie as tie
 
 returns : tie.Need-returns
 returns c =
-    let a = c .before .before .args in
-    pair-stored (a .text .now) (a .at) (a .two) (c .pair .result) (c .before .before .pre .0) (c .pair .ensures)
+    let a = c .before .before .before .args in
+    pair-stored (a .text .now) (a .at) (a .two) (c .before .digit .result) (c .digit2 .result) (c .before .digit .ensures) (c .digit2 .ensures)
 
 pub put-pair-spec : {M : Type 1} → statement M
 put-pair-spec =
@@ -15,8 +15,7 @@ put-pair-spec =
     (tie.spec
     (λ c κs. search needs)
     (λ c. search needs)
-    (λ c. search needs)
-    (λ c. search needs)
+    (λ c κs. search needs)
     (λ c. search needs)
     (λ c. search needs)
     (λ c. search needs)
