@@ -41,3 +41,7 @@ field-written {n = n} h v w = (then v w, omega (arith, ten-digits n h, v .place,
 -- a word behind what is written, and where it ends
 pub word-written : {old mid text bytes word : List ℕ} {at next end : ℕ} → Wrote old at bytes mid next → Wrote mid next word text end → Wrote old at (bytes ++ word) text end × (end ≡ next + length word)
 word-written v w = (then v w, w .place)
+
+-- the line feed behind what is written
+pub line-written : {old mid bytes : List ℕ} {at next : ℕ} → Wrote old at bytes mid next → Wrote old at (bytes ++ (10 ∷ [])) (set mid next 10) (next + 1)
+line-written {mid = mid} {next = next} v = then v (wrote-byte mid next 10)

@@ -37,7 +37,8 @@ pub fn put_refused(text: &mut [u8], number: u32) -> usize
     ensures { λ r. ⌜ Wrote (now (text .entry)) 0 (refusedLine number) (now (text .exit)) r × (r ≤ 19) ⌝ }
 {
     let next = put_field(text, 0, b"refused ", number);
-    put_word(text, next, b"\n")
+    text[next] = b'\n';
+    next + 1
 }
 
 // One object: its id, and the first three numbers of its account.
@@ -49,7 +50,8 @@ pub fn put_object(text: &mut [u8], at: usize, id: u32, offered: u32, kept: u32, 
     let third = put_field(text, second, b" offered ", offered);
     let fourth = put_field(text, third, b" kept ", kept);
     let end = put_field(text, fourth, b" thin ", thin);
-    put_word(text, end, b"\n")
+    text[end] = b'\n';
+    end + 1
 }
 
 pub fn put_counts(text: &mut [u8], at: usize, vertices: u32, indices: u32, spans: u32) -> usize
