@@ -1,4 +1,4 @@
--- The flat corners of a lid, and the turns on them, are numbers: within bounds, for an outline of at most 512 corners of a scene. Assumes nothing.
+-- The flat corners of a lid, and the turns on them, are numbers: within bounds, for an outline within a scene's limits. Assumes nothing.
 use mathlib.Core.Path.{_≡_, sym, subst}
 use Prim.Native.Nat.{ℕ, zero, suc, _+_, _*_, _^_, _≤_}
 use native.Mathlib.Nat.{le-trans, le-of-eq, lt-of-le-of-lt, mul-le-mul, mul-le-mul-right, add-zero, zero-add}
@@ -18,6 +18,7 @@ use Rattle.coords_vector.specs.declared.Vector.{Vector}
 use Rattle.coords_vector.specs.Vectors.{zeroV, unitX, unitZ, plus, less, scale, negate, dot, cross, normalizeOr}
 use Rattle.coords.specs.Coords.{origin, diff}
 use Rattle.object.specs.declared.Corner.{Corner}
+use Rattle.object.specs.Limits.{mostCorners}
 use Rattle.lid.specs.declared.Flat.{Flat}
 use Rattle.lid_plane.specs.Plane.{topsOf, areaNormal, riseStep, rise, lidSide, lidNormal, firstAxis, flatten}
 use Rattle.lid.specs.Rings.{flat0, corner, turn, turnOf}
@@ -53,7 +54,7 @@ at-near ps n i = each-getD (NearP 1 24) ps origin (record { x = record { known =
 up-to : {v : Vector} (n j r k : ℕ) → NearV n j v → n * 2 ^ j ≤ r * 2 ^ k → NearV r k v
 up-to n j r k w l = nearV-up w (le→leb (n * 2 ^ j) (r * 2 ^ k) l)
 
-area-near : (ps : List Point) → Each (NearP 1 24) ps → size ps ≤ 512 → NearV 1 60 (areaNormal ps)
+area-near : (ps : List Point) → Each (NearP 1 24) ps → size ps ≤ mostCorners → NearV 1 60 (areaNormal ps)
 unfolding areaNormal
 area-near ps n h =
     let p = getD ps 0 origin in
@@ -91,7 +92,7 @@ side-near n away m w = go (lt minArea (magnitude away)) (lt (n .z) zerof)
     go false true = opposite-near m
     go false false = m
 
-module _ (cs : List Corner) (n : Each (NearC 1 24) cs) (h : size cs ≤ 512) where
+module _ (cs : List Corner) (n : Each (NearC 1 24) cs) (h : size cs ≤ mostCorners) where
   tops-24 : Each (NearP 1 24) (topsOf cs)
   unfolding topsOf
   tops-24 = each-map (NearC 1 24) (NearP 1 24) (λ (c : Corner). c .top) (λ c m. m .top) cs n

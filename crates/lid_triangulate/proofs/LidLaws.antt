@@ -10,6 +10,7 @@ use lib.Seq.{length-take-le, length-front}
 use lib.Ieee.{Float}
 use Rattle.lists.specs.Each.{Each}
 use Rattle.lists.specs.Loops.{list, join, sumOf}
+use Rattle.object.specs.Limits.{mostHoles, mostCorners}
 use Rattle.lid.specs.declared.Flat.{Flat}
 use Rattle.lid.specs.declared.LidCounts.{LidCounts}
 use Rattle.lid.specs.declared.Prepared.{Prepared}
@@ -60,21 +61,21 @@ module _ (fs : List Flat) (hs : List Hole) (ring ring′ log log₁ : List ℕ) 
 pub still : {n k m : ℕ} → m ≡ k → n ≤ k → n ≤ m
 still {n} e h = subst (λ (i : ℕ). n ≤ i) (sym e) h
 
-pub few-low : {n : ℕ} → n ≤ 32 → n < 2 ^ 31
+pub few-low : {n : ℕ} → n ≤ mostHoles → n < 2 ^ 31
 few-low h = omega arith
 
 -- the first part of a buffer is no longer than asked for
 pub front-few : {A : Type 0} (n : ℕ) (l : List A) (m : ℕ) → n ≤ m → length (take n l) ≤ m
 front-few n l m h = omega (arith, length-take n l, h)
 
-pub front-low : {A : Type 0} (n : ℕ) (l : List A) → n ≤ 32 → length (take n l) < 2 ^ 32
+pub front-low : {A : Type 0} (n : ℕ) (l : List A) → n ≤ mostHoles → length (take n l) < 2 ^ 32
 front-low n l h = omega (arith, length-take n l, h)
 
 -- buffers with room
-pub buffers-fit : (outer : ℕ) (counts : List ℕ) (n : ℕ) → n ≤ 576 → length counts ≤ 32 → cornerTotal outer counts + (length counts + length counts) ≤ n → BuffersFit outer counts n n
+pub buffers-fit : (outer : ℕ) (counts : List ℕ) (n : ℕ) → n ≤ 576 → length counts ≤ mostHoles → cornerTotal outer counts + (length counts + length counts) ≤ n → BuffersFit outer counts n n
 buffers-fit outer counts n few holes places = record { holes = holes; places = omega (arith, places, sum-two counts); few = few; same = refl }
 
-pub all-places : (outer : ℕ) (counts : List ℕ) → cornerTotal outer counts ≤ 512 → length counts ≤ 32 → cornerTotal outer counts + (length counts + length counts) ≤ 576
+pub all-places : (outer : ℕ) (counts : List ℕ) → cornerTotal outer counts ≤ mostCorners → length counts ≤ mostHoles → cornerTotal outer counts + (length counts + length counts) ≤ 576
 all-places outer counts corners holes = omega (arith, corners, holes)
 
 pub few-places : (outer : ℕ) (counts : List ℕ) (corners : ℕ) → corners ≡ holeStart outer counts (length counts) → corners + 2 * length counts ≤ 32
@@ -125,16 +126,16 @@ module _ (fs : List Flat) (outer : ℕ) (counts : List ℕ) where
     pub order-count : p .holes ≡ length (map (holeAt fs outer counts) (take (p .holes) order))
     order-count = sym (length-map (take (p .holes) order) (holeAt fs outer counts) ∙ order-size)
 
-    pub order-room : (ring : ℕ) → BuffersFit outer counts ring room → length order ≡ 32 → p .entries + p .holes + ring + 1 < 2 ^ 32
+    pub order-room : (ring : ℕ) → BuffersFit outer counts ring room → length order ≡ mostHoles → p .entries + p .holes + ring + 1 < 2 ^ 32
     order-room ring fit size = omega (arith, done .entries, holes-each fs 0 (ringsFrom outer counts), rings-count outer counts, done .fewer, size, fit .holes, fit .few)
 
-    pub holes-low : length order ≡ 32 → p .holes < 2 ^ 32
+    pub holes-low : length order ≡ mostHoles → p .holes < 2 ^ 32
     holes-low size = omega (arith, done .fewer, size)
 
-    pub order-low : (ring : ℕ) → BuffersFit outer counts ring room → length order ≡ 32 → p .entries + p .holes < 2 ^ 32
+    pub order-low : (ring : ℕ) → BuffersFit outer counts ring room → length order ≡ mostHoles → p .entries + p .holes < 2 ^ 32
     order-low ring fit size = omega (arith, order-room ring fit size)
 
-    pub order-fits : (ring : ℕ) → BuffersFit outer counts ring room → length order ≡ 32
+    pub order-fits : (ring : ℕ) → BuffersFit outer counts ring room → length order ≡ mostHoles
         → (outer + sumOf (λ g. getD counts g 0 + 2) (take (p .holes) order) ≤ ring) × (ring < 2 ^ 32) × (p .entries + length (take (p .holes) order) < 2 ^ 32)
     order-fits ring fit size = (
       omega (arith, order-adds fs outer counts (take (p .holes) order) (done .ordered), fit .places),

@@ -15,6 +15,7 @@ use Rattle.lists.specs.Loops.{list, over}
 use Rattle.lists.proofs.Lists.{join-size}
 use Rattle.lists.proofs.Loops.{either}
 use Rattle.float.specs.Number.{zerof}
+use Rattle.object.specs.Limits.{mostHoles, mostCorners}
 use Rattle.face_triangle.specs.Triangles.{Triangle, triangle}
 use Rattle.lid.specs.declared.Flat.{Flat}
 use Rattle.lid.specs.Log.{Entry, entry, entryRecord, logNumbers, Logged}
@@ -43,7 +44,7 @@ triangles-few fs skipped j =
     let k = clip fs (length (j .ring)) (j .ring) in
     omega (arith, length-append (earsOf (k .log)) (lastTriangle fs (k .ring)), ears-few (k .log), last-few fs (k .ring), clip-size fs (length (j .ring)) (j .ring))
 
-module _ (fs : List Flat) (outer : ℕ) (counts : List ℕ) (corners : cornerTotal outer counts ≤ 512) (holes : length counts ≤ 32) where
+module _ (fs : List Flat) (outer : ℕ) (counts : List ℕ) (corners : cornerTotal outer counts ≤ mostCorners) (holes : length counts ≤ mostHoles) where
   pub ring-limit : length (joinedAll fs outer counts .ring) ≤ 576
   ring-limit = omega (arith, ring-size fs outer counts, sum-two counts)
 

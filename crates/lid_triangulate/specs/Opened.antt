@@ -7,6 +7,7 @@ use denote.Ref.{now}
 use Rattle.lists.specs.Each.{Each}
 use Rattle.lists.specs.Loops.{list, sumOf}
 use Rattle.lists.specs.Slices.{Slice}
+use Rattle.object.specs.Limits.{mostHoles}
 use Rattle.face_triangle.specs.Triangles.{Triangle}
 use Rattle.lid.specs.declared.Flat.{Flat}
 use Rattle.lid.specs.declared.Prepared.{Prepared}
@@ -31,9 +32,9 @@ abbrev pub lidOpen : List Flat → ℕ → List ℕ → Lid
 lidOpen fs outer counts =
     lidFrom fs (skippedFrom fs 0 (ringsFrom outer counts)) (joinAll fs (inOrder fs (holesFrom fs 0 (ringsFrom outer counts))) (turnOuter fs (list (λ i. i) outer 0)))
 
--- an outline of at most 32 holes, and buffers with room for its lid
+-- an outline of not too many holes, and buffers with room for its lid
 pub record BuffersFit (outer : ℕ) (counts : List ℕ) (ring hole : ℕ) : Type 0 where
-  pub holes : length counts ≤ 32
+  pub holes : length counts ≤ mostHoles
   pub places : outer + sumOf (λ n. n + 2) counts ≤ ring
   pub few : ring ≤ 576
   pub same : hole ≡ ring

@@ -4,6 +4,7 @@ ghost use Prim.Native.Nat.{_+_, _<_, _≤_, _^_};
 ghost use lib.ListN.{length, take};
 ghost use Rattle.lists.specs.Loops.{sumOf};
 ghost use Rattle.lists.specs.Loops.{list};
+ghost use Rattle.object.specs.Limits.{mostHoles, mostCorners};
 ghost use Rattle.lid.specs.Rings.{flats, flatsIn, turnOuter};
 ghost use Rattle.lid.specs.Lid.{lidOf};
 ghost use Rattle.lid.specs.Written.{cornerTotal, LidWritten};
@@ -17,6 +18,7 @@ use lid_hole_survey::survey;
 use lid_join::join_holes;
 use lid_log::put_entry;
 use lid_ring::write_ring;
+use object::MOST_HOLES;
 
 // Writes the entries of the holes that are skipped, and puts the others in joining order.
 fn prepare(
@@ -28,13 +30,13 @@ fn prepare(
     order: &mut [u32],
     log: &mut [u32],
 ) -> Prepared
-    requires { ⌜ (cornerTotal outer (now counts) < 2 ^ 32) × (length (now counts) ≤ 32) ⌝ }
+    requires { ⌜ (cornerTotal outer (now counts) < 2 ^ 32) × (length (now counts) ≤ mostHoles) ⌝ }
     requires { ⌜ sumOf (λ n. n) (now counts) ≤ length (now hole) ⌝ }
     requires { ⌜ length (now counts) ≤ length (now order) ⌝ }
     ensures { λ r. ⌜ HolesPrepared (flatsIn xs ys) outer (now (counts .entry)) (length (now (hole .entry))) order log r ⌝ }
 {
-    let mut rights = [0.0; 32];
-    let mut small = [false; 32];
+    let mut rights = [0.0; MOST_HOLES];
+    let mut small = [false; MOST_HOLES];
     let entries = survey(xs, ys, outer, counts, hole, &mut rights, &mut small, log);
     let n = counts.len();
     let holes = order_holes(&rights[..n], &small[..n], order);
@@ -56,7 +58,7 @@ fn cut_open(
     requires { ⌜ take outer (now ring) ≡ turnOuter (flats (now xs) (now ys)) (list (λ i. i) outer 0) ⌝ }
     ensures { λ r. ⌜ LidWritten (lidOpen (flatsIn xs ys) outer (now (counts .entry))) log 0 triangles r ⌝ }
 {
-    let mut order = [0; 32];
+    let mut order = [0; MOST_HOLES];
     let p = prepare(xs, ys, outer, counts, hole, &mut order, log);
     let c = p.holes;
     let m = join_holes(
@@ -117,7 +119,7 @@ pub fn triangulate(
     log: &mut [u32],
     triangles: &mut [u32],
 ) -> LidCounts
-    requires { ⌜ (cornerTotal outer (now counts) ≤ 512) × (length (now counts) ≤ 32) ⌝ }
+    requires { ⌜ (cornerTotal outer (now counts) ≤ mostCorners) × (length (now counts) ≤ mostHoles) ⌝ }
     ensures { λ r. ⌜ LidWritten (lidOf (flatsIn xs ys) outer (now (counts .entry))) log 0 triangles r ⌝ }
 {
     let n = counts.len();

@@ -12,6 +12,7 @@ use Rattle.object.specs.declared.Extent.{Extent}
 use Rattle.object.specs.declared.Extent.the-variants.{Box, Cylinder, Unsized}
 use Rattle.object.specs.declared.Section.{Section}
 use Rattle.object.specs.declared.Orientation.{Orientation}
+use Rattle.object.specs.Limits.{mostCorners}
 use Rattle.object.specs.Object.{Shape, solid, outline, sweep, roundSweep, frame}
 use Rattle.float.proofs.Within.{Within, covers, neg-within, add-within, sub-within, mul-within, convert-within}
 use Rattle.coords.proofs.Near.{NearP, NearV}
@@ -67,6 +68,6 @@ NearX Unsized = Unit {0}
 
 abbrev pub NearShape : Shape → Type 0
 NearShape (solid o t x) = NearP 1 24 o × Paired t × NearX x
-NearShape (outline closed cs holes) = Each (NearC 1 24) cs × Each (Each (NearC 1 24)) holes × (size cs + sumOf (λ k. k) (map size holes) ≤ 512)
+NearShape (outline closed cs holes) = Each (NearC 1 24) cs × Each (Each (NearC 1 24)) holes × (size cs + sumOf (λ k. k) (map size holes) ≤ mostCorners)
 NearShape (sweep ss) = Each (NearS 1 24) ss
 NearShape (roundSweep ss) = Each (NearS 1 24) ss

@@ -1,6 +1,11 @@
 // The objects of a scene, as object.rs has them: see specs/Object.antt.
 use coords::Point;
 
+// The limits of an outline: its holes, and its corners with those of its holes.
+pub const MOST_HOLES: usize = 32;
+
+pub const MOST_CORNERS: usize = 512;
+
 // One corner of an outline or one edge of a section.
 pub struct Corner {
     pub base: Point,

@@ -4,11 +4,6 @@ pub const MOST_BYTES: usize = 16_777_216;
 
 pub const MOST_OBJECTS: u32 = 65_536;
 
-pub const MOST_HOLES: u16 = 32;
-
-// Of an outline with its holes.
-pub const MOST_CORNERS: usize = 512;
-
 pub const MOST_SECTIONS: u16 = 4_096;
 
 pub const CORNER_BYTES: usize = 24;

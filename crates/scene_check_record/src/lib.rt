@@ -12,9 +12,9 @@ ghost use Rattle.scene_field.specs.Layout.{mostHoles};
 ghost use Rattle.scene_field.specs.Fields.{all32};
 ghost use Rattle.scene.specs.Scene.{rest, solidAt, outlineOf, outlineAt, sweepAt, kindAt, recordAt};
 ghost use Rattle.scene.specs.Answers.{endOf};
+use object::MOST_CORNERS;
+use object::MOST_HOLES;
 use refusal::Refusal;
-use scene::layout::MOST_CORNERS;
-use scene::layout::MOST_HOLES;
 use scene::layout::MOST_SECTIONS;
 use scene::layout::ORIENTATION_BYTES;
 use scene::layout::POSITION_BYTES;
@@ -80,7 +80,7 @@ fn check_outline(s: &[u8], e: usize, i: usize) -> RecordEnd
     }
     let outer = u16_in(s, i);
     let holes = u16_in(s, i + 2);
-    if MOST_HOLES < holes {
+    if MOST_HOLES < holes as usize {
         return RecordEnd::Bad(Refusal::Counts);
     }
     if e - i < 4 + 2 * (holes as usize) {

@@ -1,5 +1,7 @@
 -- Document 01, section 1: the limits of a scene, and how many bytes its fields take. Definitions only.
 use Prim.Native.Nat.{ℕ, _+_}
+-- the limits of an outline
+pub use Rattle.object.specs.Limits.{mostHoles, mostCorners}
 
 -- ---- limits
 
@@ -9,13 +11,6 @@ mostBytes = 16777216
 
 abbrev pub mostObjects : ℕ
 mostObjects = 65536
-
--- of the holes of an outline, and of its corners with those of its holes
-abbrev pub mostHoles : ℕ
-mostHoles = 32
-
-abbrev pub mostCorners : ℕ
-mostCorners = 512
 
 -- of the sections of a sweep
 abbrev pub mostSections : ℕ

@@ -6,6 +6,7 @@ use lib.ListN.{length as size}
 use Rattle.lists.specs.Loops.{join}
 use Rattle.lists.specs.Each.{Each}
 use Rattle.object.specs.declared.Corner.{Corner}
+use Rattle.object.specs.Limits.{mostCorners}
 use Rattle.object.specs.Object.{Shape, solid, outline, sweep, roundSweep, Object}
 use Rattle.lid_plane.specs.Plane.{topsOf, lidNormal}
 use Rattle.shape.specs.Shapes.{allCorners, flatOf}
@@ -14,7 +15,7 @@ use Rattle.coords.proofs.Near.{NearP}
 use Rattle.object.proofs.Near.{NearC, NearShape}
 use Rattle.lid_plane.proofs.Flats.{NearF, lid-near, flatten-near}
 
-pub flats-near : (cs : List Corner) (holes : List (List Corner)) → Each (NearC 1 24) cs → Each (Each (NearC 1 24)) holes → size cs ≤ 512 → Each NearF (flatOf cs holes)
+pub flats-near : (cs : List Corner) (holes : List (List Corner)) → Each (NearC 1 24) cs → Each (Each (NearC 1 24)) holes → size cs ≤ mostCorners → Each NearF (flatOf cs holes)
 unfolding flatOf allCorners topsOf
 flats-near cs holes n m h =
     let all = cs ++ join (λ h. h) holes in
@@ -31,7 +32,7 @@ FlatShape (roundSweep ss) = Unit {0}
 pub flat-shape : (o : Object) → NearShape (o .shape) → FlatShape (o .shape)
 flat-shape o n = go (o .shape) n
   where
-    few : (a b : ℕ) → a + b ≤ 512 → a ≤ 512
+    few : (a b : ℕ) → a + b ≤ mostCorners → a ≤ mostCorners
     few a b h = omega arith
 
     go : (s : Shape) → NearShape s → FlatShape s

@@ -19,6 +19,7 @@ use Rattle.object.specs.declared.Extent.{Extent}
 use Rattle.object.specs.declared.Extent.the-variants.{Box, Cylinder, Unsized}
 use Rattle.object.specs.declared.Section.{Section}
 use Rattle.object.specs.declared.Orientation.{Orientation}
+use Rattle.object.specs.Limits.{mostHoles, mostCorners}
 use Rattle.object.specs.Object.{Shape, solid, outline, sweep, roundSweep, frame}
 use Rattle.scene.specs.declared.headers.Body.{Body}
 use Rattle.scene.specs.declared.headers.Body.the-variants.{Solid, Outline, Sweep}
@@ -285,7 +286,7 @@ few-triangles : (closed : Bool) (cs : List Corner) (holes : List (List Corner)) 
 few-triangles true cs holes = omega (arith, outline-most true cs holes)
 few-triangles false cs holes = omega (arith, outline-most false cs holes)
 
-outline-sized : (closed : Bool) (cs : List Corner) (holes : List (List Corner)) (c h : ℕ) → length cs + total (map length holes) ≡ c → length holes ≡ h → c ≤ 512 → h ≤ 32
+outline-sized : (closed : Bool) (cs : List Corner) (holes : List (List Corner)) (c h : ℕ) → length cs + total (map length holes) ≡ c → length holes ≡ h → c ≤ mostCorners → h ≤ mostHoles
     → Sized (5 + (4 + 2 * h + 24 * c)) (outline closed cs holes)
 unfolding facesOf offered
 outline-sized closed cs holes c h p q l m =

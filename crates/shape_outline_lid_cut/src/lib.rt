@@ -11,6 +11,7 @@ use coords_vector::Vector;
 use lid_plane_axes::first_axis;
 use lid_plane_axes::flat_corner;
 use lid_triangulate::triangulate;
+use object::MOST_HOLES;
 use scene_field::u16_in;
 use scene_field_point::point_at;
 use shape_outline_corners::OutlineAt;
@@ -55,7 +56,7 @@ pub fn cut(
     requires { ⌜ OutlineHolds (now s) o × (2 * o .n ≤ length (now work)) ⌝ }
     ensures { λ r. ⌜ LidWritten (lidAt (now (s .entry)) (o .i) (o .outer) (o .holes)) log 0 triangles r ⌝ }
 {
-    let mut counts = [0; 32];
+    let mut counts = [0; MOST_HOLES];
     let h = o.holes;
     let n = o.n as usize;
     lay_flat(s, o.at + 12, n, o.lid, work);

@@ -12,6 +12,7 @@ use Rattle.coords_vector.specs.declared.Vector.{Vector}
 use Rattle.coords_vector.specs.Vectors.{zeroV, cross}
 use Rattle.coords.specs.Coords.{diff}
 use Rattle.object.specs.declared.Corner.{Corner}
+use Rattle.object.specs.Limits.{mostCorners}
 use Rattle.scene_field.specs.Fields.{cornerAt, cornersAt}
 use Rattle.scene.proofs.Parts.{corners-get, corners-length}
 use Rattle.face.specs.Faces.{Face, quad, fan}
@@ -56,5 +57,5 @@ outer-countable s n at true lid m r countable p h = let cs = cornersAt s n at in
 outer-countable s n at false lid m r countable p h = let cs = cornersAt s n at in walls-countable cs zeroV (length cs - 1) m r countable p (omega (arith, corners-length s n at))
 
 -- with nothing drawn the walls of m corners can be counted
-pub start-countable : (before m : ℕ) → 3 * before < 2 ^ 32 → m ≤ 512 → Countable before (tally 0 0 0) (4 * m) (2 * m)
+pub start-countable : (before m : ℕ) → 3 * before < 2 ^ 32 → m ≤ mostCorners → Countable before (tally 0 0 0) (4 * m) (2 * m)
 start-countable before m h g = record { vertices = omega arith; kept = omega arith; thin = omega arith }

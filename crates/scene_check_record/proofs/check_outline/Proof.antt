@@ -23,6 +23,9 @@ add-u16-in c = search needs
 u16-in-requires-2 : tie.Need-u16-in-requires-2
 u16-in-requires-2 c κs = search needs
 
+cast-if2 : tie.Need-cast-if2
+cast-if2 c = search needs
+
 returns-2 : tie.Need-returns-2
 returns-2 c =
     let a = c .before .before .before .before .before .args in
@@ -62,6 +65,7 @@ check-outline-spec =
     u16-in-requires
     add-u16-in
     u16-in-requires-2
+    cast-if2
     returns-2
     sub-if3
     cast-if3
