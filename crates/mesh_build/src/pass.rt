@@ -48,8 +48,7 @@ fn object_at(
         &mut is[k..],
         &mut log[e..],
     );
-    let after = d.after;
-    let t = after[5];
+    let t = d.after[5];
     put_span(h.id, p, t, spans);
     put_account(p.objects, d, account);
     advance(p, h.size, d)

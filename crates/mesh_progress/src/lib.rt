@@ -87,8 +87,7 @@ pub fn advance(p: Progress, size: usize, d: Drawn) -> Progress
     requires { ⌜ CanAdvance p size (cameTo d) ⌝ }
     ensures { λ r. ⌜ r ≡ advanced p size (cameTo d) ⌝ }
 {
-    let after = d.after;
-    let t = after[5];
+    let t = d.after[5];
     Progress {
         at: p.at + size,
         objects: p.objects + 1,

@@ -36,8 +36,7 @@ pub fn put_span(id: u32, p: Progress, t: Tally, spans: &mut [u32])
 pub fn put_account(n: u32, d: Drawn, account: &mut [u32])
     ensures { λ _. ⌜ now (account .exit) ≡ sets (now (account .entry)) (accountWidth * n) (accountBy (cameTo d)) ⌝ }
 {
-    let after = d.after;
-    let t = after[5];
+    let t = d.after[5];
     put_four(
         account,
         ACCOUNT_WIDTH * (n as usize),

@@ -4,7 +4,7 @@ use Rattle.mesh_progress.proofs.advance.Statement.{statement}
 use Rattle.mesh_progress.proofs.advance.Tie as tie
 
 returns : tie.Need-returns
-returns c = rw (c .before .before .before .spans-more .ensures .0)
+returns c = rw (c .before .before .spans-more .ensures .0)
 
 pub advance-spec : {M : Type 1} → statement M
 advance-spec =

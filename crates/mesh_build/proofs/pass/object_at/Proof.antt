@@ -11,20 +11,20 @@ draw-requires c κs = can-draw (c .before .before .before .before .before .befor
 
 put-span-requires : tie.Need-put-span-requires
 put-span-requires c κs =
-    let c₁ = c .before .before .before .before .before .before .before .before .before .before .before in
+    let c₁ = c .before .before .before .before .before .before .before .before .before .before in
     let c₂ = c₁ .before .before .before .before .before .before .before in
     let v = can-advance (c₂ .before .before .before .before .before .before .before .before .pre) (c₂ .header-at .ensures) _ (drawn-is (c₁ .draw .ensures)) in
     (v .vertices, v .kept)
 
 advance-requires : tie.Need-advance-requires
 advance-requires c κs =
-    let c₁ = c .before .before .before .before .before .before .before .before .before .before .before .before .before .before .before .before .before .before in
+    let c₁ = c .before .before .before .before .before .before .before .before .before .before .before .before .before .before .before .before .before in
     let c₂ = c₁ .before .before .before .before .before .before .before in
     can-advance (c₂ .before .before .before .before .before .before .before .before .pre) (c₂ .header-at .ensures) _ (drawn-is (c₁ .draw .ensures))
 
 returns : tie.Need-returns
 returns c =
-    let c₁ = c .before .before .before .before .before .before .before .before .before .before .before .before .before .before .before .before .before .before .before in
+    let c₁ = c .before .before .before .before .before .before .before .before .before .before .before .before .before .before .before .before .before .before in
     let c₂ = c₁ .before .before .before .before .before .before in
     let c₃ = c₂ .before in
     let a = c₃ .before .before .before .before .before .before .before .before .args in
@@ -42,4 +42,4 @@ object-at-spec =
     (λ c. record { fits = omega (arith, c .before .before .before .before .before .before .before .before .before .before .before .before .good .1 .1 .1 .1 .1 .0) }) (λ c. c .before .before .before .starts-in .ensures .indices .1) (λ c. c .before .before .before .starts-in .ensures .indices .1) (λ c. le-refl _)
     (λ c. record { fits = omega (arith, c .before .before .before .before .before .before .before .before .before .before .before .before .before .good .1 .1 .1 .1 .1 .1 .1 .1 .0) }) (λ c. c .before .before .before .before .starts-in .ensures .log .1) (λ c. c .before .before .before .before .starts-in .ensures .log .1) (λ c. le-refl _)
     draw-requires (λ c. omega arith) put-span-requires (λ c κs. tt) advance-requires
-    (λ c. c .before .before .before .before .before .before .before .before .before .before .before .before .before .before .before .before .before .before .vs .given .1) (λ c. c .before .before .before .before .before .before .before .before .before .before .before .before .before .before .before .before .ns .given .1) (λ c. c .before .before .before .before .before .before .before .before .before .before .before .before .before .before .is .given .1) (λ c. c .before .before .before .before .before .before .spans .given) (λ c. c .before .before .account .given) (λ c. c .before .before .before .before .before .before .before .before .before .before .before .before .log .given .1) returns)
+    (λ c. c .before .before .before .before .before .before .before .before .before .before .before .before .before .before .before .before .before .vs .given .1) (λ c. c .before .before .before .before .before .before .before .before .before .before .before .before .before .before .before .ns .given .1) (λ c. c .before .before .before .before .before .before .before .before .before .before .before .before .before .is .given .1) (λ c. c .before .before .before .before .before .before .spans .given) (λ c. c .before .before .account .given) (λ c. c .before .before .before .before .before .before .before .before .before .before .before .log .given .1) returns)
