@@ -1,14 +1,10 @@
 -- What the operations answer, by the enums of src/lib.rt: document 01's number and values for each case.
 use mathlib.Core.Path.{_≡_}
-use Prim.Native.Nat.{ℕ, _*_}
-use mathlib.Core.Bool.{_||_, cond}
+use Prim.Native.Nat.{ℕ}
 use mathlib.Core.List.{List}
 use lib.ListN.{take}
-use lib.Seq.{sets}
-use lib.Dec.{ltb}
 use lib.Ieee.{Float}
 use Rattle.lists.specs.Slices.{Slice}
-use Rattle.object.specs.Object.{Object}
 use Rattle.validate.specs.declared.Validation.{Validation}
 use Rattle.validate.specs.Validate.{validate}
 use Rattle.mesh_answer.specs.declared.Counted.{Counted}
@@ -18,7 +14,7 @@ use Rattle.mesh_answer.specs.declared.Answered.the-variants.{Refused, Co
 use Rattle.mesh_answer.specs.declared.Answer.{Answer as CAnswer}
 use Rattle.mesh_answer.specs.declared.JudgedBuild.{JudgedBuild}
 use Rattle.mesh.specs.PerBuffer.{Counts as Numbers, Buffers, entering, leaving}
-use Rattle.mesh.specs.Operations.{Answer, Built, refusedWith, output, countsOf, build}
+use Rattle.mesh.specs.Operations.{Answer, Built, refusedWith, build}
 
 abbrev pub countsFrom : Counted → Numbers
 countsFrom c = record { vertices = c .vertices; normals = c .normals; indices = c .indices; spans = c .spans; account = c .account; log = c .log }

@@ -25,7 +25,7 @@ use Rattle.shape.specs.Price.{offered}
 use Rattle.shape.specs.Shapes.{facesOf, logOf}
 use Rattle.mesh_progress.specs.declared.Progress.{Progress}
 use Rattle.mesh_progress.specs.declared.Starts.{Starts}
-use Rattle.mesh.specs.Mesh.{Span, keptBy, thinBy, accountOf, pieceOf, spanOf, meshFrom, accountsOf, logsOf, spanNumbers, accountRecord, accountNumbers}
+use Rattle.mesh.specs.Mesh.{Span, keptBy, thinBy, accountOf, pieceOf, spanOf, meshFrom, accountsOf, logsOf}
 use Rattle.mesh.specs.PerBuffer.{each, at, numbersFor, Counts, FitCounts, Buffers, lent}
 use Rattle.mesh.specs.Operations.{written}
 

@@ -4,17 +4,10 @@ use mathlib.Core.Bool.{Bool, true, false, not, _&&_, _||_, cond}
 use mathlib.Core.List.{List, [], _∷_}
 use lib.ListN.{length, getD}
 use lib.Dec.{ltb, eqb}
-use lib.Ieee.{Float, binary32, binary64, ofBits}
-use Rattle.lists.specs.Loops.{every, list, sumOf}
-use Rattle.float.specs.Number.{allowed32, allowed64}
-use Rattle.coords.specs.declared.Point.{Point}
-use Rattle.coords.specs.Coords.{point}
-use Rattle.object.specs.declared.Corner.{Corner}
+use Rattle.lists.specs.Loops.{sumOf}
 use Rattle.object.specs.declared.Extent.{Extent}
 use Rattle.object.specs.declared.Extent.the-variants.{Unsized}
-use Rattle.object.specs.declared.Pair.{Pair}
 use Rattle.object.specs.declared.Section.{Section}
-use Rattle.object.specs.declared.Orientation.{Orientation}
 use Rattle.scene_field.specs.Layout.{mostBytes, mostObjects, mostHoles, mostCorners, mostSections, cornerBytes, sectionBytes, positionBytes, orientationBytes, orientationFrom, sizesFrom}
 use Rattle.scene_field.specs.Fields.{u16At, u32At, pointAt, orientationAt, boxAt, cylinderAt, cornersAt, sectionsAt, countsAt, holesAt, all32, all64}
 use Rattle.object.specs.Object.{Shape, solid, outline, sweep, roundSweep, Object}
