@@ -20,7 +20,7 @@ program's stack.
 import math, random, struct
 from pathlib import Path
 
-HERE = Path(__file__).resolve().parent.parent / 'crates' / 'refusals'
+HERE = Path(__file__).resolve().parent.parent / 'crates' / 'test_refusals'
 LENGTH, OBJECTS, HOLES, CORNERS, SECTIONS = 16777216, 65536, 32, 512, 4096
 
 

@@ -1,4 +1,4 @@
-// A face, and what drawing faces leaves in lent buffers and counts: see specs/. The crate `faces` draws them.
+// A face, and what drawing faces leaves in lent buffers and counts: see specs/. The crate `face_draw` draws them.
 
 // What has been written and counted so far.
 pub struct Tally {

@@ -1,5 +1,5 @@
 -- The loop of `face` over its triangles, one at a time: what is counted and added up, and the indices that are written as it goes. For the contracts of this
--- crate's functions; face/proofs/Offers.antt shows that it comes to what face/specs/Faces.antt says of the whole list. Definitions only.
+-- crate's functions; face_draw/proofs/Offers.antt shows that it comes to what face/specs/Faces.antt says of the whole list. Definitions only.
 use mathlib.Core.Path.{_≡_}
 use Prim.Native.Nat.{ℕ, _+_, _*_, _/_, _<_, _^_}
 use mathlib.Core.Bool.{cond}

@@ -1,4 +1,4 @@
--- `quote::main` is safe and ends: what it writes is the first part of the array, which is the text (`printed` of quoting/proofs/Whole). Assumes nothing.
+-- `quote::main` is safe and ends: what it writes is the first part of the array, which is the text (`printed` of quote_write/proofs/Whole). Assumes nothing.
 use Rattle.quote_write.proofs.Whole.{within, counted}
 use borrow.Author.Needs.{needs}
 use Rattle.quote.proofs.main.Statement.{statement}
