@@ -4,3 +4,4 @@ pub mod Turned
 pub mod Lengths
 pub mod Triangles
 pub mod Buffers
+pub mod Squares

@@ -1,4 +1,7 @@
 // Points: three f32, by value, with the operations of coords.rs in its order.
+
+pub mod thin;
+
 ghost use mathlib.Core.Path.{_≡_};
 ghost use Rattle.coords.specs.Coords.{diff, moved, lerp, samePoint, finitePoint};
 use coords_vector::Vector;
@@ -41,9 +44,9 @@ impl Point {
     pub fn is_finite(self) -> bool
         ensures { λ r. ⌜ r ≡ finitePoint self ⌝ }
     {
-        float_finite::is_finite(self.x)
-            & float_finite::is_finite(self.y)
-            & float_finite::is_finite(self.z)
+        float_sign::finite::is_finite(self.x)
+            & float_sign::finite::is_finite(self.y)
+            & float_sign::finite::is_finite(self.z)
     }
 
     // Equal by value: -0.0 equals +0.0.

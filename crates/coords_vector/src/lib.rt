@@ -89,7 +89,7 @@ impl Vector {
         ensures { λ r. ⌜ r ≡ normalizeOr self fallback ⌝ }
     {
         let len = float_sqrt::sqrt(self.dot(self));
-        if float_finite::is_finite(len) & (0.0 < len) {
+        if float_sign::finite::is_finite(len) & (0.0 < len) {
             self.scale(1.0 / len)
         } else {
             fallback

@@ -1,4 +1,7 @@
 // One flat face, `face` of object_mesh.rs, drawn into lent buffers behind what stands there.
+
+pub mod points;
+
 ghost use mathlib.Core.Path.{_≡_};
 ghost use Prim.Native.Nat.{_+_, _<_, _/_, _^_};
 ghost use lib.Dec.{eqb};
@@ -8,14 +11,14 @@ ghost use Rattle.face_judge.specs.Offered.{TrianglesAmong};
 ghost use Rattle.face.specs.Faces.{quad};
 ghost use Rattle.face.specs.Drawing.{faceIn, Countable, DrawsFace};
 ghost use Rattle.face_draw.specs.Sums.{countedWith, StoresKept};
+use crate::points::put_points;
 use coords::Point;
 use coords_vector::Vector;
 use face::Tally;
 use face_judge::Sum;
 use face_judge::offer_all;
 use face_judge::offer_quad;
-use face_judge_quad::thin_in_quad;
-use face_points::put_points;
+use face_judge::quad::thin_in_quad;
 
 // What was counted, with a face of n points whose triangles came to the sum.
 fn counted_with(t: Tally, s: Sum, n: u32) -> Tally

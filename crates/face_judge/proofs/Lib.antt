@@ -1,1 +1,2 @@
 pub mod OneOffered
+pub mod ThinCounts

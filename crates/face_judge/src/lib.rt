@@ -1,5 +1,8 @@
 // The triangles of a face, one after the other: each is judged thin, or as it faces out or away, counted,
 // and written if it is kept.
+
+pub mod quad;
+
 ghost use mathlib.Core.Path.{_≡_};
 ghost use mathlib.Core.List.{[], _∷_};
 ghost use Prim.Native.Nat.{_+_, _*_, _<_, _/_, _^_};
@@ -29,7 +32,7 @@ fn judge(limit: f32, out: Vector, a: Point, b: Point, c: Point) -> Side
     ensures { λ r. ⌜ r ≡ sideOf limit out a b c ⌝ }
 {
     let n = b.sub(a).cross(c.sub(a));
-    if coords_thin::shorter_than(n, limit) {
+    if coords::thin::shorter_than(n, limit) {
         return Side::Thin;
     }
     if n.dot(out) < 0.0 {
@@ -52,7 +55,7 @@ fn offer(s: Sum, k: Side, a: u32, b: u32, c: u32, n: u32, is: &mut [u32]) -> Sum
             thin: s.thin + 1,
         },
         Side::Front(v) => {
-            buffer_number::put_numbers(is, n, a, b, c);
+            buffer::numbers::put_numbers(is, n, a, b, c);
             Sum {
                 normal: normal.add(v),
                 kept: s.kept + 1,
@@ -60,7 +63,7 @@ fn offer(s: Sum, k: Side, a: u32, b: u32, c: u32, n: u32, is: &mut [u32]) -> Sum
             }
         }
         Side::Back(v) => {
-            buffer_number::put_numbers(is, n, a, c, b);
+            buffer::numbers::put_numbers(is, n, a, c, b);
             Sum {
                 normal: normal.sub(v),
                 kept: s.kept + 1,
@@ -119,9 +122,9 @@ fn side_at(limit: f32, out: Vector, points: &[f32], a: usize, b: usize, c: usize
     judge(
         limit,
         out,
-        buffer_float::vertex_at(points, a),
-        buffer_float::vertex_at(points, b),
-        buffer_float::vertex_at(points, c),
+        buffer::floats::vertex_at(points, a),
+        buffer::floats::vertex_at(points, b),
+        buffer::floats::vertex_at(points, c),
     )
 }
 

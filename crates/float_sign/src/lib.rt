@@ -1,4 +1,7 @@
 // Signs, the larger of two numbers and their order, for every value.
+
+pub mod finite;
+
 ghost use mathlib.Core.Path.{_≡_};
 ghost use Rattle.float.specs.Signs.{magnitude, signum, larger, totalLess};
 

@@ -1,4 +1,7 @@
 // How a hole is joined to the ring, as `bridge`.
+
+pub mod ray;
+
 ghost use mathlib.Core.Path.{_≡_};
 ghost use Prim.Native.Nat.{_+_, _<_};
 ghost use lib.ListN.{length};
@@ -6,6 +9,8 @@ ghost use Rattle.lists.specs.Loops.{first};
 ghost use Rattle.lid.specs.Rings.{flatsIn};
 ghost use Rattle.lid.specs.Bridges.{inside, slopeOf, seenAt, visible, sitsIn, isCopy, copyOf, bridge};
 ghost use Rattle.lid.specs.Steps.{rayTo};
+use crate::ray::first_hit;
+use crate::ray::rightmost;
 use lid::Bridged;
 use lid::CornerNumber;
 use lid::Flat;
@@ -13,13 +18,11 @@ use lid::Hit;
 use lid::Ray;
 use lid::RingPlace;
 use lid::Seen;
-use lid_bridge_ray::first_hit;
-use lid_bridge_ray::rightmost;
 use lid_flat::flat_at;
 use lid_flat::flat_of;
 use lid_flat::turn;
-use lid_ring_corners::corners_at;
-use lid_ring_corners::number_at;
+use lid_ring::corners::corners_at;
+use lid_ring::corners::number_at;
 use lists::Found;
 
 const MIN_POSITIVE: f32 = 1.17549435e-38;

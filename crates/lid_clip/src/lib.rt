@@ -7,21 +7,21 @@ ghost use Rattle.lid.specs.Rings.{flats, flatsIn, turn};
 ghost use Rattle.lid.specs.Clipping.{isStraight, clipStep};
 ghost use Rattle.lid.specs.Steps.{CornerCut, RingClipped};
 ghost use Rattle.lid_clip_ear.specs.Ears.{Known};
-ghost use Rattle.lid_clip_notes.specs.Notes.{PlaceForgotten};
+ghost use Rattle.lid_clip_ear.specs.Notes.{PlaceForgotten};
 ghost use Rattle.lid_clip.specs.StepNotes.{stepNotes};
 use float::MIN_AREA;
 use lid::Clipped;
 use lid::RingPlace;
 use lid::Step;
 use lid_clip_ear::find_ear;
-use lid_clip_notes::forget;
-use lid_clip_notes::forget_all;
+use lid_clip_ear::notes::forget;
+use lid_clip_ear::notes::forget_all;
 use lid_flat::flat_at;
 use lid_flat::turn;
 use lid_log::put_entry;
 use lid_log::put_triangle;
-use lid_ring_corners::corners_at;
-use lid_ring_place::remove;
+use lid_ring::corners::corners_at;
+use lid_ring::place::remove;
 use lists::Found;
 
 // Whether the corner at a place lies on a straight run.

@@ -11,7 +11,7 @@ use Rattle.lid.specs.declared.Step.the-variants.{Cut, Stop}
 use Rattle.lid.specs.declared.Tested.{Tested}
 use Rattle.lid.specs.declared.Tested.the-variants.{Ear, No}
 use Rattle.lid.specs.Clipping.{clipStep}
-use Rattle.lid_clip_notes.specs.Notes.{without}
+use Rattle.lid_clip_ear.specs.Notes.{without}
 use Rattle.lid_clip_ear.specs.Ears.{fails, looked, searched}
 
 -- how many tests `first p m k` makes

@@ -1,3 +1,4 @@
 pub mod FirstLaws
 pub mod TestLaws
 pub mod EarLaws
+pub mod NoteLaws

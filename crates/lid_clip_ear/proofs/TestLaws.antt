@@ -14,7 +14,7 @@ use Rattle.lid.specs.declared.Tested.the-variants.{No}
 use Rattle.lid.specs.Rings.{corner, turn, turnOf}
 use Rattle.lid.specs.Clipping.{before, here, after, clear}
 use Rattle.lid.specs.Steps.{cornersAround}
-use Rattle.lid_clip_notes.specs.Notes.{failedAt}
+use Rattle.lid_clip_ear.specs.Notes.{failedAt}
 use Rattle.lid_clip_ear.specs.Ears.{fails, told, tested, blocks, behind}
 use Rattle.lid_clip_ear.proofs.FirstLaws.{first-behind, first-same}
 

@@ -17,7 +17,7 @@ use Rattle.lid.specs.declared.Tested.the-variants.{Ear, No}
 use Rattle.lid.specs.Rings.{corner, turnOf}
 use Rattle.lid.specs.Clipping.{before, here, after, clear}
 use Rattle.lid.specs.Steps.{clearBy}
-use Rattle.lid_clip_notes.specs.Notes.{failedAt}
+use Rattle.lid_clip_ear.specs.Notes.{failedAt}
 
 -- place i fails test j: test 0 is its turn, and test k + 1 the corner at place k, which is not to stand in the way. An ear fails none, from test 0 to
 -- that of the last place

@@ -1,4 +1,7 @@
 // The search for an ear. How far a place's tests have come is noted, so that they go on from there, and a place that failed one is passed over.
+
+pub mod notes;
+
 ghost use mathlib.Core.Path.{_≡_};
 ghost use Prim.Native.Nat.{_<_, _≤_};
 ghost use lib.ListN.{length};
@@ -7,16 +10,16 @@ ghost use Rattle.lid.specs.Rings.{flats, flatsIn, corner, turn};
 ghost use Rattle.lid.specs.Clipping.{isEar};
 ghost use Rattle.lid.specs.Steps.{clearBy};
 ghost use Rattle.lid_clip_ear.specs.Ears.{Known, firstBlock, behind, told, tested, searched};
+use crate::notes::UNTURNED;
+use crate::notes::failed;
 use lid::CornerNumber;
 use lid::Corners;
 use lid::Flat;
 use lid::RingPlace;
 use lid::Tested;
-use lid_clip_notes::UNTURNED;
-use lid_clip_notes::failed;
 use lid_flat::flat_at;
 use lid_flat::turn;
-use lid_ring_corners::corners_at;
+use lid_ring::corners::corners_at;
 use lists::Found;
 
 // Whether corner p, at q, does not stand in the way of the ear t, at a, b, c.

@@ -1,1 +1,3 @@
 pub mod HoleLaws
+pub mod SurveyLaws
+pub mod PutLaws

@@ -1,1 +1,2 @@
 pub mod Holes
+pub mod Order

@@ -1,4 +1,8 @@
 // A hole of an outline: where its corners start, and its corners, turned, with whether it is too small.
+
+pub mod order;
+pub mod survey;
+
 ghost use mathlib.Core.Path.{_≡_};
 ghost use Prim.Native.Nat.{_<_, _≤_, _^_};
 ghost use lib.ListN.{length, getD, take};

@@ -5,8 +5,8 @@ ghost use Prim.Native.Nat.{_*_};
 ghost use Rattle.face_triangle.specs.Triangles.{triangle};
 ghost use Rattle.lid.specs.Log.{entry};
 ghost use Rattle.lid.specs.Written.{logWith, trianglesWith};
-use buffer_number::put_four;
-use buffer_number::put_numbers;
+use buffer::numbers::put_four;
+use buffer::numbers::put_numbers;
 use lid::ENTRY_WIDTH;
 
 // Writes entry n of the log.

@@ -1,1 +1,3 @@
 pub mod RingLaws
+pub mod RemoveLaws
+pub mod FoldLaws

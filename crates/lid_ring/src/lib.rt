@@ -1,4 +1,9 @@
 // Rings of corner numbers as a lid writes them, turned.
+
+pub mod area;
+pub mod corners;
+pub mod place;
+
 ghost use mathlib.Core.Path.{_≡_};
 ghost use mathlib.Core.List.{reverse};
 ghost use Prim.Native.Nat.{_+_, _-_, _<_, _≤_, _^_};
@@ -6,8 +11,8 @@ ghost use lib.ListN.{length};
 ghost use Rattle.lists.specs.Loops.{list};
 ghost use Rattle.lid.specs.Rings.{flatsIn, tooSmall};
 ghost use Rattle.lid.specs.Steps.{turned};
+use crate::area::area;
 use float::MIN_AREA;
-use lid_area::area;
 
 // Numbers the places of a ring from `from` up.
 fn fill(ring: &mut [u32], from: u32)

@@ -22,7 +22,7 @@ use Rattle.lid.specs.Lid.{lidFrom, lidRings, lidOf}
 use Rattle.lid.specs.Written.{logWith, triangleNumbers, cornerTotal, WritesLid}
 use Rattle.lid.specs.Steps.{turned}
 use Rattle.lid_hole.specs.Holes.{holeStart, holeAt, rightsOf, smallOf, skips, Joinable}
-use Rattle.lid_hole_order.specs.Order.{orderOf, Ordered}
+use Rattle.lid_hole.specs.Order.{orderOf, Ordered}
 use Rattle.lid_cut.specs.CutRing.{ringEntries, ringTriangles}
 use Rattle.lid_triangulate.specs.Opened.{openEntries, openTriangles, lidOpen, BuffersFit, Prepares}
 use Rattle.lid_join.specs.Joined.{JoinsAll}

@@ -11,9 +11,9 @@ use mesh_progress::BEGINNING;
 use mesh_progress::Progress;
 use mesh_progress::advance;
 use mesh_progress::count_numbers;
+use mesh_progress::records::put_account;
+use mesh_progress::records::put_span;
 use mesh_progress::starts_in;
-use mesh_records::put_account;
-use mesh_records::put_span;
 
 // The object of the next record, drawn into the tails of the buffers.
 fn object_at(

@@ -1,15 +1,18 @@
 // Measure: for each buffer the count of numbers that Build will write.
+
+pub mod room;
+
 ghost use mathlib.Core.Path.{_≡_};
 ghost use Rattle.scene.specs.Scene.{scene};
 ghost use Rattle.mesh.specs.Operations.{measure};
 ghost use Rattle.mesh_answer.specs.Answers.{answerOf};
 ghost use Rattle.mesh_measure.specs.Bounds.{boundScene};
+use crate::room::bound_counts;
 use float::MIN_AREA;
 use mesh_answer::Answered;
 use mesh_bound::Counting;
 use mesh_bound::Group;
-use mesh_bound_scene::bound_of_all;
-use mesh_room::bound_counts;
+use mesh_bound::totals::bound_of_all;
 use scene::scenes::Checked;
 
 // What the objects take in each buffer at a limit below which a triangle is thin: measured, or the most that they can take.

@@ -1,4 +1,7 @@
 // How far the pass over the records has come.
+
+pub mod records;
+
 ghost use mathlib.Core.Path.{_≡_};
 ghost use Prim.Native.Nat.{_*_, _≤_};
 ghost use Rattle.lid.specs.Log.{entryWidth};

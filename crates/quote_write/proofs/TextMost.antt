@@ -28,9 +28,9 @@ use Rattle.mesh.specs.Mesh.{keptBy, thinBy, accountOf, meshFrom, meshOf}
 use Rattle.mesh.proofs.Demand3.Accounts.{price-is-kept-and-thin}
 use Rattle.mesh.proofs.MeshSizes.{mesh-indices}
 use Rattle.decimal.specs.Decimals.{decimal}
-use Rattle.quote_room.specs.Room.{objectsMost}
+use Rattle.quote_text.specs.Room.{objectsMost}
 use Rattle.mesh.proofs.Comes.{sized-here, scene-comes}
-use Rattle.quote_room.proofs.Enough.{few-objects}
+use Rattle.quote_text.proofs.Enough.{few-objects}
 use Rattle.quote_lines.specs.Words.{ascii, field}
 use Rattle.quote_lines.specs.Lines.{refusedLine, accountLine, countsLine, isOk, verdictLine}
 use Rattle.quote_lines.proofs.Pieces.{ten-digits}

@@ -19,8 +19,8 @@ use Rattle.mesh.specs.Mesh.{Mesh, meshOf}
 use Rattle.mesh.specs.Operations.{refusedWith, done, measureScene, measure}
 use Rattle.decimal.specs.Texts.{Wrote}
 use Rattle.decimal.proofs.Texts.{then, wrote-as}
-use Rattle.quote_room.specs.Room.{objectsMost}
-use Rattle.quote_room.proofs.Enough.{few-objects}
+use Rattle.quote_text.specs.Room.{objectsMost}
+use Rattle.quote_text.proofs.Enough.{few-objects}
 use Rattle.quote_lines.specs.Lines.{refusedLine, countsLine, verdictLine}
 use Rattle.quote_text.specs.Quote.{objectLine, meshLine, objectsText, sceneText, quoteText}
 use Rattle.quote_objects.specs.Accounts.{Priced}

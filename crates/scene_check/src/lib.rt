@@ -1,16 +1,19 @@
 // Checks a whole scene.
+
+pub mod record;
+
 ghost use mathlib.Core.Path.{_≡_};
 ghost use Prim.Native.Nat.{_+_, _*_, _≤_};
 ghost use lib.ListN.{length};
 ghost use Rattle.scene_field.specs.Layout.{mostObjects};
 ghost use Rattle.scene.specs.Scene.{scene, recordsFrom};
 ghost use Rattle.scene.specs.Answers.{checkedOf};
+use crate::record::check_record;
 use refusal::Refusal;
 use scene::layout::MOST_BYTES;
 use scene::layout::MOST_OBJECTS;
 use scene::records::RecordEnd;
 use scene::scenes::Checked;
-use scene_check_record::check_record;
 use scene_field::u32_in;
 
 // The n records before the trailer's start e.

@@ -1,4 +1,9 @@
-// Whole numbers at a place of the scene's bytes, little-endian.
+// Numbers at a place of the scene's bytes, little-endian. Whole numbers stand here.
+
+pub mod allowed;
+pub mod floats;
+pub mod points;
+
 ghost use mathlib.Core.Path.{_≡_};
 ghost use Prim.Native.Nat.{_+_, _≤_};
 ghost use lib.ListN.{length};

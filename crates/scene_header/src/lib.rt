@@ -1,11 +1,15 @@
 // What a record of an accepted scene holds, read where it lies. Nothing is tested: the checking
 // pass has done that, and past the end every byte counts as 0.
+
+pub mod hole_counts;
+
 ghost use mathlib.Core.Path.{_≡_};
 ghost use Prim.Native.Nat.{_+_, _≤_, _<_, _^_};
 ghost use lib.ListN.{length};
 ghost use Rattle.scene_field.specs.Fields.{u16At, boxAt, cylinderAt};
 ghost use Rattle.scene.specs.declared.headers.Body.the-variants.{Solid, Sweep};
 ghost use Rattle.scene.specs.Headers.{solidFrom, outlineFrom, volumeSize, headerOf, headerAt};
+use crate::hole_counts::sum_counts;
 use object::Extent;
 use scene::headers::Body;
 use scene::headers::Header;
@@ -14,10 +18,9 @@ use scene::layout::CORNER_BYTES;
 use scene::layout::ORIENTATION_BYTES;
 use scene::layout::POSITION_BYTES;
 use scene::layout::SECTION_BYTES;
+use scene_field::floats::f32_at;
 use scene_field::u16_at;
 use scene_field::u32_at;
-use scene_field_float::f32_at;
-use scene_hole_counts::sum_counts;
 
 // ---- a solid
 

@@ -32,12 +32,12 @@ use Rattle.shape.specs.Drawn.{CanDraw, DrewObject}
 use Rattle.shape.specs.Price.{offered, outlinePrice}
 use Rattle.shape_outline_corners.specs.declared.OutlineAt.{OutlineAt}
 use Rattle.shape_outline_corners.specs.Outlines.{cornersPlace, outlineShape, lidAt, Placed, OutlineHolds}
-use Rattle.shape_outline_lid_faces.specs.declared.Capped.{Capped}
-use Rattle.shape_outline_lid_faces.specs.Caps.{DrewCap}
+use Rattle.shape_outline_lid.specs.declared.faces.Capped.{Capped}
+use Rattle.shape_outline_lid.specs.Caps.{DrewCap}
 use Rattle.shape_outline.specs.Measures.{outlineIn, wallsIn}
 use Rattle.shape.proofs.Sizes.{sum-lengths, outer-points, holes-points}
 use Rattle.shape.proofs.Prices.{walls-count, holes-count}
-use Rattle.shape_outline_lid_cut.proofs.FlatLaws.{all-corners}
+use Rattle.shape_outline_lid.proofs.FlatLaws.{all-corners}
 
 outer-count : (closed : Bool) (cs : List Corner) (lid : Vector) → sumOf count (outerWalls closed cs lid) ≤ 2 * length cs
 unfolding outerWalls

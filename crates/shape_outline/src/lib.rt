@@ -16,10 +16,10 @@ use shape::Drawn;
 use shape::NOTHING;
 use shape_outline_corners::OutlineAt;
 use shape_outline_corners::has_height;
-use shape_outline_hole_walls::hole_walls;
-use shape_outline_lid_faces::cap;
-use shape_outline_normal::about;
-use shape_outline_normal::lid_normal;
+use shape_outline_corners::normal::about;
+use shape_outline_corners::normal::lid_normal;
+use shape_outline_lid::faces::cap;
+use shape_outline_walls::holes::hole_walls;
 use shape_outline_walls::walls;
 
 // The normal that `walls` takes for the n outer corners at `at`: the lid's or its reverse, so that the

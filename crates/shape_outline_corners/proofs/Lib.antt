@@ -1,2 +1,3 @@
 pub mod CornerLaws
 pub mod Searches
+pub mod AreaLaws

@@ -1,5 +1,8 @@
 // The corners of an outline where they lie in the scene's bytes: the place of the one after a corner, and
 // whether they have height.
+
+pub mod normal;
+
 ghost use mathlib.Core.Path.{_≡_};
 ghost use mathlib.Core.Bool.{not};
 ghost use Prim.Native.Nat.{_+_, _*_, _<_, _≤_, _^_};
@@ -10,7 +13,7 @@ ghost use Rattle.scene_field.specs.Fields.{cornerAt, cornersAt};
 ghost use Rattle.shape.specs.Shapes.{hasHeight};
 ghost use Rattle.shape_outline_corners.specs.Outlines.{CornersIn};
 use coords_vector::Vector;
-use scene_field_point::corner_at;
+use scene_field::points::corner_at;
 
 // An outline where it lies: its counts are at `i` and its corners, n in all, at `at`. `lid` is the
 // normal of its lid, and `high` tells whether a closed one has a floor.

@@ -1,2 +1,3 @@
 pub mod Drawings
 pub mod WallLaws
+pub mod HoleWallLaws

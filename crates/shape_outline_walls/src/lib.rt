@@ -1,4 +1,7 @@
 // The walls of a ring of an outline, `walls` of object_mesh.rs: one from each corner to the next.
+
+pub mod holes;
+
 ghost use Prim.Native.Nat.{_*_, _≤_};
 ghost use Rattle.scene_field.specs.Fields.{cornersAt};
 ghost use Rattle.face.specs.Drawing.{Draws, Countable};
@@ -6,7 +9,7 @@ ghost use Rattle.shape.specs.Shapes.{walls};
 ghost use Rattle.shape_outline_corners.specs.Outlines.{CornersIn};
 use coords_vector::Vector;
 use face::Tally;
-use scene_field_point::corner_at;
+use scene_field::points::corner_at;
 use shape_outline_corners::next_place;
 
 // The first `edges` walls of n corners at `at`.

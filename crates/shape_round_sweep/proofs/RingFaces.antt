@@ -29,9 +29,9 @@ use Rattle.shape.specs.Shapes.{Ellipse, ellipse, ellipse0, startOut, endOut, en
 use Rattle.shape.specs.Stages.{fourStages, roundStages, DrewStages}
 use Rattle.shape.proofs.Stages.{stages-capped}
 use Rattle.shape_ring_face.proofs.Rings.{list-more, drew-next}
-use Rattle.shape_section_ends.specs.Places.{EndPlaces}
+use Rattle.shape_section.specs.Places.{EndPlaces}
 use Rattle.shape_round_sweep.specs.Rings.{ringAbout}
-use Rattle.shape_section_ends.proofs.Neighbours.{map-list, pair-drawn, ends-are}
+use Rattle.shape_section.proofs.Neighbours.{map-list, pair-drawn, ends-are}
 
 -- ---- lists
 

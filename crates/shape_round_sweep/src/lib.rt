@@ -15,9 +15,9 @@ use crate::ellipses::ellipse;
 use crate::ellipses::tube;
 use coords::Point;
 use face::Tally;
-use scene_field_point::section_at;
+use scene_field::points::section_at;
 use shape::StageTallies;
-use shape_section_ends::end_places;
+use shape_section::ends::end_places;
 
 fn centre_at(s: &[u8], i: usize) -> Point
     requires { ⌜ i + 48 ≤ length (now s) ⌝ }

@@ -1,4 +1,7 @@
 // The sections of a sweep, told apart as `sweep` has it.
+
+pub mod ends;
+
 ghost use mathlib.Core.Path.{_≡_};
 ghost use Rattle.shape.specs.Shapes.{sameCorner, isWidthlessSection, isFlatSection};
 use object::Corner;

@@ -21,11 +21,11 @@ use Rattle.face.proofs.Counts.{count}
 use Rattle.face.proofs.Draws.{then}
 use Rattle.scene_field.specs.Fields.{pointAt, cornerAt, sectionAt, sectionsAt}
 use Rattle.scene.proofs.Parts.{sections-get}
-use Rattle.shape_section_ends.specs.Places.{EndPlaces}
+use Rattle.shape_section.specs.Places.{EndPlaces}
 use Rattle.shape.specs.Shapes.{section0, isWidthlessSection, isFlatSection, pairFaces, pairs, startOut, endOut, cap, sweepCaps}
 use Rattle.shape.specs.Stages.{fourStages, sweepStages, DrewStages}
 use Rattle.shape.proofs.Stages.{stages-capped}
-use Rattle.shape_section_ends.proofs.Neighbours.{ends-are}
+use Rattle.shape_section.proofs.Neighbours.{ends-are}
 
 -- the points of a face
 abbrev size : Face → ℕ

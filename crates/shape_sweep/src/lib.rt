@@ -16,12 +16,12 @@ use coords_vector::Vector;
 use face::Tally;
 use face_draw::quad;
 use object::Section;
-use scene_field_point::point_at;
-use scene_field_point::section_at;
+use scene_field::points::point_at;
+use scene_field::points::section_at;
 use shape::StageTallies;
+use shape_section::ends::end_places;
 use shape_section::is_flat;
 use shape_section::is_widthless;
-use shape_section_ends::end_places;
 
 // To the left of the way from a to b.
 fn side_direction(a: Point, b: Point) -> Vector

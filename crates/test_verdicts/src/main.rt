@@ -42,7 +42,7 @@ fn store(vertices: &mut [f32], indices: &mut [u32], k: usize, w: u32) {
         vertices[k] = test_words::float(w);
         return;
     }
-    buffer_number::put_number(indices, k - n, w);
+    buffer::numbers::put_number(indices, k - n, w);
 }
 
 fn read(fd: i32, count: usize, vertices: &mut [f32], indices: &mut [u32]) {

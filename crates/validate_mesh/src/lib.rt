@@ -1,15 +1,18 @@
 // Whether a mesh can back a physics collider, and if not, why: `Mesh::validate` of mesh.rs.
+
+pub mod faults;
+
 ghost use mathlib.Core.Path.{_≡_};
 ghost use lib.ListN.{getD};
 ghost use Rattle.coords.specs.Buffers.{verticesIn};
 ghost use Rattle.validate.specs.Validate.{verdictOnTriangle, trianglesFrom, validateAt, validate};
+use crate::faults::degenerate;
+use crate::faults::first_not_finite;
 use float::MIN_AREA;
 use lists::Found;
 use refusal::Refusal;
 use validate::Validation;
 use validate::Verdict;
-use validate_faults::degenerate;
-use validate_faults::first_not_finite;
 
 // What is wrong with triangle t, of the vertices numbered a, b and c, if anything is.
 fn triangle(limit: f32, vertices: &[f32], t: usize, a: u32, b: u32, c: u32) -> Verdict

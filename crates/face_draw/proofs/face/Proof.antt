@@ -1,7 +1,7 @@
 -- `face_draw::face` meets its contract. Assumes nothing.
 use Prim.Native.Nat.{_+_}
 use native.Mathlib.Omega.{arith}
-use Rattle.buffer_float.proofs.Vertices.{length-vertices}
+use Rattle.buffer.proofs.Vertices.{length-vertices}
 use Rattle.coords.specs.Buffers.{verticesIn}
 use Rattle.face_draw.proofs.OneFace.{length-triangles, all-counted, face-drawn}
 use Rattle.face_judge.specs.Offered.{offered}

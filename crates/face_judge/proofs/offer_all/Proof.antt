@@ -3,7 +3,7 @@ use mathlib.Core.Path.{_≡_, refl, _∙_}
 use Prim.Native.Nat.{_+_, _-_, _≤_, _/_}
 use native.Mathlib.Omega.{arith}
 use lib.ListN.{length}
-use Rattle.buffer_float.proofs.Vertices.{length-vertices}
+use Rattle.buffer.proofs.Vertices.{length-vertices}
 use Rattle.coords.specs.Buffers.{verticesIn}
 use Rattle.face_judge.proofs.OneOffered.{one-counted, low-at}
 use Rattle.face_triangle.specs.Triangles.{triangleAt, trianglesIn}

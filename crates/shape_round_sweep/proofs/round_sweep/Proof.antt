@@ -13,7 +13,7 @@ use Rattle.scene_field.specs.Fields.{sectionAt, sectionsAt}
 use Rattle.shape.specs.Shapes.{pairs, ellipse, endFace, tubeFaces}
 use Rattle.shape.proofs.Stages.{stages-nothing}
 use Rattle.shape_round_sweep.specs.Rings.{ringAbout}
-use Rattle.shape_section_ends.proofs.Neighbours.{second-in}
+use Rattle.shape_section.proofs.Neighbours.{second-in}
 use Rattle.shape_round_sweep.proofs.RingFaces.{tube-points, tube-triangles, tube-drawn, ring-size, round-none, round-drawn}
 use Rattle.shape_round_sweep.proofs.round_sweep.Statement.{statement}
 use Rattle.shape_round_sweep.proofs.round_sweep.Tie as tie

@@ -9,7 +9,7 @@ use Rattle.face.proofs.Draws.{drew-countable, drew-none, drew-vertices, drew-no
 use Rattle.scene_field.specs.Fields.{sectionAt, sectionsAt}
 use Rattle.shape.specs.Shapes.{pairFaces, pairs}
 use Rattle.shape.proofs.Stages.{stages-nothing}
-use Rattle.shape_section_ends.proofs.Neighbours.{pair-drawn, second-in}
+use Rattle.shape_section.proofs.Neighbours.{pair-drawn, second-in}
 use Rattle.shape_sweep.proofs.SweepFaces.{pair-points, pair-triangles, sweep-drawn, sweep-none}
 use Rattle.shape_sweep.proofs.sweep.Statement.{statement}
 use Rattle.shape_sweep.proofs.sweep.Tie as tie

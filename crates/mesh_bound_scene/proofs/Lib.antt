@@ -1,4 +1,0 @@
-pub mod Headers
-pub mod Sums
-pub mod Exact
-pub mod Counts
