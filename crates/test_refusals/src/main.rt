@@ -6,11 +6,7 @@ use libc::STDOUT_FILENO;
 use refusal::refusal_number;
 use scene::scenes::Checked;
 use scene_check::check_scene;
-
-enum Next {
-    Word(u32),
-    End,
-}
+use test_words::Next;
 
 // A piece of a scene: its kind and three numbers.
 struct Piece {
@@ -25,17 +21,10 @@ enum Found {
     Nothing,
 }
 
-fn wide(b: u8) -> u32 {
-    b as u32
-}
-
 fn next_word(fd: i32) -> Next {
     let mut four = [0u8; 4];
     let n = io::read_full(fd, &mut four);
-    if n < 4 {
-        return Next::End;
-    }
-    Next::Word(wide(four[0]) | wide(four[1]) << 8 | wide(four[2]) << 16 | wide(four[3]) << 24)
+    test_words::word(&four, n)
 }
 
 fn next_piece(fd: i32) -> Found {

@@ -3,24 +3,12 @@
 // word of four bytes, or two for an f64, the lowest first. compare/rounding makes the files and the
 // lines.
 use libc::STDOUT_FILENO;
+use test_words::Next;
 
-enum Next {
-    Word(u32),
-    End,
-}
-
-fn byte(b: u8) -> u32 {
-    b as u32
-}
-
-// The next four bytes, the lowest first.
 fn next_word(fd: i32) -> Next {
     let mut four = [0u8; 4];
     let n = io::read_full(fd, &mut four);
-    if n < 4 {
-        return Next::End;
-    }
-    Next::Word(byte(four[0]) | byte(four[1]) << 8 | byte(four[2]) << 16 | byte(four[3]) << 24)
+    test_words::word(&four, n)
 }
 
 fn write(text: &[u8]) {

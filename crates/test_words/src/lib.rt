@@ -1,6 +1,22 @@
-// The numbers that bit patterns stand for, for the test programs.
+// Words of a file and the numbers that bit patterns stand for, for the test programs.
 ghost use mathlib.Core.Path.{_≡_};
 ghost use lib.Ieee.{binary32, binary64, ofBits};
+ghost use Rattle.test_words.specs.Words.{wordOf};
+
+pub enum Next {
+    Word(u32),
+    End,
+}
+
+// The word in four bytes, the lowest first, of which n were read.
+pub fn word(four: &[u8], n: usize) -> Next
+    ensures { λ r. ⌜ r ≡ wordOf (now (four .entry)) n ⌝ }
+{
+    if n < 4 {
+        return Next::End;
+    }
+    Next::Word(scene_field::u32_at(four, 0))
+}
 
 // The f32 with these bits.
 pub fn float(bits: u32) -> f32
