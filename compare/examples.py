@@ -1,6 +1,6 @@
 #!/usr/bin/env python3
 """Writes stored scenes and the Rust's answers as the lists of crates/test_built/specs/Outlines.antt (outlines, lists of
-objects) and crates/test_built/specs/Solids.antt (solids, sweeps) and, the refused ones, at the end of crates/test_refused/specs/Examples.antt.
+objects) and crates/test_built/specs/Solids.antt (solids, sweeps) and, the refused ones, at the end of crates/test_samples/specs/Examples.antt.
 
   compare/examples.py ANSWERS          prints these lists
 

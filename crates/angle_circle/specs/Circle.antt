@@ -5,7 +5,6 @@ use lib.IntN.{pos}
 use lib.Dec.{ltb}
 use lib.Ieee.{Float, nan, inf, fin, binary32, ofInt, round, up, down}
 use Rattle.float.specs.Number.{_+f_, _*f_, _/f_, tau, sixteenf, twof}
-use Rattle.angle_circle.specs.declared.SinCos.{SinCos}
 
 -- k × TAU / 16: the product is rounded, then the quotient
 unfoldable pub angle : ℕ → Float
@@ -49,7 +48,3 @@ cosine (fin s m e) =
     let p = m * up e in
     let q = down e in
     nearestDiff (terms 40 p q 11 0) (terms 40 p q 10 2) (q ^ 40 * falling 40 40)
-
--- both, as Rust's `sin_cos` gives them
-abbrev pub sinCos : Float → SinCos
-sinCos x = record { sin = sine x; cos = cosine x }

@@ -2,7 +2,8 @@
 // directions, half a step further: document 01, section 3.
 ghost use mathlib.Core.Path.{_≡_};
 ghost use Prim.Native.Nat.{_<_};
-ghost use Rattle.angle_circle.specs.Circle.{angle, sideAngle, sinCos};
+ghost use Rattle.angle_circle.specs.Circle.{angle, sideAngle};
+ghost use Rattle.angle_circle.specs.Contract.Circle.{sinCos};
 
 // The sine and the cosine of one angle.
 pub struct SinCos {

@@ -4,7 +4,7 @@ use mathlib.Core.Bool.{false}
 use lib.Dec.{T}
 use lib.Ieee.{Float, binary32, lt, fits}
 use lib.Ieee.Fits.{add-fits}
-use Rattle.float.specs.Thin.{thinBound}
+use Rattle.float.specs.Contract.Thin.{thinBound}
 use Rattle.float.specs.Number.{_+f_, _*f_}
 use Rattle.coords_vector.specs.declared.Vector.{Vector}
 use Rattle.coords_vector.specs.Vectors.{dot, norm}

@@ -1,7 +1,7 @@
 // The thin test: whether a vector is shorter than the limit, told by its square, for every value.
 ghost use mathlib.Core.Path.{_≡_};
 ghost use lib.Ieee.{lt};
-ghost use Rattle.float.specs.Thin.{thinBound};
+ghost use Rattle.float.specs.Contract.Thin.{thinBound};
 ghost use Rattle.coords_vector.specs.Vectors.{norm};
 use coords_vector::Vector;
 

@@ -9,7 +9,8 @@ use lib.Count.{leadingZeros, leading-length}
 use lib.Dec.{T, leb, leb→le}
 use lib.Ieee.Fits.{and-l, and-r}
 use lib.ListN.{length}
-use Rattle.decimal.specs.Decimals.{decimal, tenTo}
+use Rattle.decimal.specs.Decimals.{decimal}
+use Rattle.decimal.specs.Contract.Decimals.{tenTo}
 use Rattle.decimal.proofs.Digits.{size-most, size-least, some-digit}
 
 -- ---- what passes the arms 0, 1, .. of a match is not below them

@@ -9,7 +9,8 @@ use lib.Dec.{T, leb}
 use lib.IntN.{ℤ, pos, negsuc, negℤ, natAbs, sucℤ, _+ℤ_, _-ℤ_, +ℤ-one, +ℤ-idl, negℤ-negℤ}
 use lib.ListN.{length}
 use lib.Signed.{leZ, nonNeg}
-use Rattle.decimal.specs.Decimals.{decimal, integer}
+use Rattle.decimal.specs.Decimals.{decimal}
+use Rattle.decimal.specs.Contract.Decimals.{integer}
 use Rattle.decimal.proofs.Digits.{size-u64}
 use mir.Syntax.{w64}
 use mir.Val.{SFits, ofZ, toZ}

@@ -7,8 +7,9 @@ use native.Mathlib.Omega.{arith}
 use lib.IntN.{ℤ, pos, negsuc, natAbs}
 use lib.ListN.{length, set, length-set}
 use lib.Seq.{sets, set-set, length-sets}
-use Rattle.decimal.specs.Decimals.{decimal, integer}
-use Rattle.decimal.specs.Texts.{HasRoom, Wrote}
+use Rattle.decimal.specs.Decimals.{decimal}
+use Rattle.decimal.specs.Contract.Decimals.{integer}
+use Rattle.decimal.specs.Contract.Texts.{HasRoom, Wrote}
 use Rattle.decimal.proofs.Digits.{decimal-one, decimal-two, decimal-two-more, size-two-more, some-digit}
 use Rattle.decimal.proofs.Texts.{end-first}
 

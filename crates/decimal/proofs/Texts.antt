@@ -8,7 +8,7 @@ use native.Mathlib.Omega.{arith}
 use lib.ListN.{length, set, length-append, length-set}
 use lib.Seq.{sets, set-comm, length-sets}
 use Rattle.lists.proofs.Stores.{sets-append}
-use Rattle.decimal.specs.Texts.{Wrote, HasRoom}
+use Rattle.decimal.specs.Contract.Texts.{Wrote, HasRoom}
 
 module _ {A : Type 0} where
   -- a store behind a run may come first

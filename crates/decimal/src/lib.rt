@@ -5,8 +5,9 @@ ghost use Prim.Native.Nat.{_+_, _/_, _%_, _≤_, _<_};
 ghost use lib.IntN.{natAbs};
 ghost use lib.ListN.{length};
 ghost use lib.Seq.{sets};
-ghost use Rattle.decimal.specs.Decimals.{decimal, integer, tenTo};
-ghost use Rattle.decimal.specs.Texts.{HasRoom, Wrote};
+ghost use Rattle.decimal.specs.Decimals.{decimal};
+ghost use Rattle.decimal.specs.Contract.Decimals.{integer, tenTo};
+ghost use Rattle.decimal.specs.Contract.Texts.{HasRoom, Wrote};
 
 // 10^k, but 0 at 0. A match is compiled to a table, where an array would be copied at each call.
 fn ten_to(k: u64) -> u64

@@ -8,7 +8,8 @@ use Rattle.lists.specs.Loops.{list}
 use Rattle.lists.specs.Each.{Each}
 use Rattle.coords.specs.declared.Point.{Point}
 use Rattle.coords_vector.specs.declared.Vector.{Vector}
-use Rattle.face.specs.Faces.{Triangle, triangle, Face, TriangleLow, FaceLow, fan, quad, isThin, isTurned, facing, keptFrom, keptOf}
+use Rattle.face.specs.Faces.{Triangle, triangle, Face, fan, quad, isThin, isTurned, facing, keptFrom, keptOf}
+use Rattle.face.specs.Contract.Faces.{TriangleLow, FaceLow}
 use Rattle.lists.proofs.Loops.{either}
 
 -- ---- the kept triangles are turned, and keep their corners

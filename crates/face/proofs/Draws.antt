@@ -15,7 +15,7 @@ use Rattle.coords_vector.specs.declared.Vector.{Vector}
 use Rattle.coords.specs.Buffers.{vertexRecord, vertexNumbers, normalRecord, normalNumbers}
 use Rattle.face.specs.declared.Tally.{Tally}
 use Rattle.face.specs.Faces.{Triangle, Face, Piece, thinIn, keptOf, faceNormal, nothing, behind, writeKept, writeFace, writeFaces}
-use Rattle.face.specs.Drawing.{tally, Drawing, drawing, counted, drawn, Drew, Countable}
+use Rattle.face.specs.Contract.Drawing.{tally, Drawing, drawing, counted, drawn, Drew, Countable}
 use Rattle.face.proofs.Counts.{count, faces-account}
 use Rattle.face.proofs.Written.{write-size}
 

@@ -12,7 +12,8 @@ use Rattle.lists.specs.Each.{Each}
 use Rattle.coords.specs.declared.Point.{Point}
 use Rattle.coords_vector.specs.declared.Vector.{Vector}
 use Rattle.coords.specs.Coords.{origin, noArea}
-use Rattle.face.specs.Faces.{TriangleLow, FaceLow, Triangle, triangle, Face, normal, isThin, isTurned, facing, keptFrom, keptOf, nothing, behind, numbered, writeKept, writeFace, writeFaces}
+use Rattle.face.specs.Faces.{Triangle, triangle, Face, normal, isThin, isTurned, facing, keptFrom, keptOf, nothing, behind, numbered, writeKept, writeFace, writeFaces}
+use Rattle.face.specs.Contract.Faces.{TriangleLow, FaceLow}
 use Rattle.lists.proofs.Lists.{each-append}
 use Rattle.coords.proofs.Near.{NearP}
 use Rattle.coords.proofs.Turned.{area-turned}

@@ -11,7 +11,8 @@ use Rattle.lists.specs.Each.{Each}
 use Rattle.lists.specs.Loops.{join, sumOf}
 use Rattle.coords.specs.declared.Point.{Point}
 use Rattle.coords.specs.Coords.{origin}
-use Rattle.face.specs.Faces.{TriangleLow, FaceLow, Triangle, Face, nothing, behind, numbered, keptOf, writeKept, writeFace, writeFaces}
+use Rattle.face.specs.Faces.{Triangle, Face, nothing, behind, numbered, keptOf, writeKept, writeFace, writeFaces}
+use Rattle.face.specs.Contract.Faces.{TriangleLow, FaceLow}
 use Rattle.lists.proofs.Lists.{join-size, map-append, each-append, each-imp}
 use Rattle.face.proofs.Corners.{kept-low}
 

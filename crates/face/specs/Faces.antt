@@ -4,14 +4,13 @@ use mathlib.Core.Bool.{Bool, cond}
 use mathlib.Core.List.{List, [], _∷_, _++_}
 use lib.ListN.{length, getD, replicate}
 use lib.Ieee.{Float, lt}
-use Rattle.lists.specs.Each.{Each}
 use Rattle.lists.specs.Loops.{list, join, countOf}
 use Rattle.float.specs.Number.{zerof}
 use Rattle.coords.specs.declared.Point.{Point}
 use Rattle.coords_vector.specs.declared.Vector.{Vector}
 use Rattle.coords_vector.specs.Vectors.{zeroV, unitZ, plus, less, dot, cross, norm, normalizeOr}
 use Rattle.coords.specs.Coords.{origin, diff}
-pub use Rattle.face_triangle.specs.Triangles.{Triangle, triangle, TriangleLow}
+pub use Rattle.face_triangle.specs.Triangles.{Triangle, triangle}
 
 -- `part` names the part of the object that the face belongs to: 1 walls and sides, 2 lid, 3 floor, 4 caps, 11 to 16 a box's faces
 pub record Face : Type 0 where
@@ -19,10 +18,6 @@ pub record Face : Type 0 where
   pub triangles : List Triangle
   pub out : Vector
   pub part : ℕ
-
--- the corner numbers of its triangles are numbers of its points
-abbrev pub FaceLow : Face → Type 0
-FaceLow f = Each (TriangleLow (length (f .points))) (f .triangles)
 
 -- the triangles of a convex polygon of n corners, from its first
 unfoldable pub fan : ℕ → List Triangle

@@ -17,7 +17,7 @@ use Rattle.face_judge.specs.declared.Side.the-variants.{Thin, Front, Back}
 use Rattle.face_judge.specs.declared.Sum.{Sum}
 use Rattle.face_triangle.specs.Triangles.{Triangle, triangle}
 use Rattle.face.specs.Faces.{normal, isThin, isTurned, facing, keptFrom, addNormal, normalFrom, numbered}
-use Rattle.face_judge.specs.Offered.{sideOf, sideIn, indicesOf, gathered, Offered, offered, offerOne}
+use Rattle.face_judge.specs.Contract.Offered.{sideOf, sideIn, indicesOf, gathered, Offered, offered, offerOne}
 
 abbrev sums : Vector → ℕ → ℕ → Sum
 sums v kept thin = record { normal = v; kept = kept; thin = thin }

@@ -21,10 +21,10 @@ use Rattle.coords.specs.Buffers.{vertexNumbers, normalNumbers}
 use Rattle.face.specs.declared.Tally.{Tally}
 use Rattle.face.specs.Faces.{Triangle, triangle, Face, thinIn, keptOf, faceNormal, nothing, behind, numbered, writeKept, writeFace, writeFaces}
 use Rattle.face_judge.specs.declared.Sum.{Sum}
-use Rattle.face_triangle.specs.Triangles.{triangleRecord, triangleAt, trianglesIn}
-use Rattle.face_judge.specs.Offered.{Offered, offered, noSum, offerAll}
-use Rattle.face.specs.Drawing.{tally, Drawing, drawing, counted, drawn, Drew}
-use Rattle.face_draw.specs.Sums.{countedWith, verticesWith, normalsWith}
+use Rattle.face_triangle.specs.Contract.Triangles.{triangleRecord, triangleAt, trianglesIn}
+use Rattle.face_judge.specs.Contract.Offered.{Offered, offered, noSum, offerAll}
+use Rattle.face.specs.Contract.Drawing.{tally, Drawing, drawing, counted, drawn, Drew}
+use Rattle.face_draw.specs.Contract.Sums.{countedWith, verticesWith, normalsWith}
 use Rattle.face.proofs.Counts.{face-account}
 use Rattle.face_draw.proofs.Offers.{added, offered-all}
 use Rattle.face.proofs.Draws.{same-drawing, same-tally, put}

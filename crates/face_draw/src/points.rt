@@ -3,7 +3,7 @@ ghost use Prim.Native.Nat.{_+_, _<_, _/_, _^_};
 ghost use lib.ListN.{length};
 ghost use Rattle.coords.specs.Buffers.{verticesIn};
 ghost use Rattle.coords_vector.specs.Vectors.{unitZ, normalizeOr};
-ghost use Rattle.face_draw.specs.Stored.{Stores};
+ghost use Rattle.face_draw.specs.Contract.Stored.{Stores};
 use coords_vector::Vector;
 
 // All points, each with the normal, from place at on.

@@ -14,8 +14,9 @@ use Rattle.coords_vector.specs.declared.Vector.{Vector}
 use Rattle.face_judge.specs.declared.Side.{Side}
 use Rattle.face_judge.specs.declared.Side.the-variants.{Thin, Front, Back}
 use Rattle.face_judge.specs.declared.Sum.{Sum}
-use Rattle.face_triangle.specs.Triangles.{Triangle, triangle, TriangleLow}
-use Rattle.face_judge.specs.Offered.{sideOf, sideIn, indicesOf, gathered, Offered, offered, noSum, offerOne, offerAll}
+use Rattle.face_triangle.specs.Triangles.{Triangle, triangle}
+use Rattle.face_triangle.specs.Contract.Triangles.{TriangleLow}
+use Rattle.face_judge.specs.Contract.Offered.{sideOf, sideIn, indicesOf, gathered, Offered, offered, noSum, offerOne, offerAll}
 
 -- each triangle counts once
 gathered-one : (k : Side) (s : Sum) → gathered k s .kept + gathered k s .thin ≡ s .kept + s .thin + 1

@@ -15,7 +15,7 @@ use Rattle.coords_vector.specs.Vectors.{dot, cross, norm}
 use Rattle.face_judge.specs.declared.Side.the-variants.{Thin, Front, Back}
 use Rattle.face_judge.specs.declared.Sum.{Sum}
 use Rattle.face_triangle.specs.Triangles.{triangle}
-use Rattle.face_judge.specs.Offered.{sideOf, sideIn, gathered, noSum, offerOne, offerAll}
+use Rattle.face_judge.specs.Contract.Offered.{sideOf, sideIn, gathered, noSum, offerOne, offerAll}
 
 module _ (limit : Float) (out : Vector) where
   gathered-thin : (a b c : Point) (s : Sum) → gathered (sideOf limit out a b c) s .thin ≡ s .thin + boolByte (lt (norm (cross (diff b a) (diff c a))) limit)

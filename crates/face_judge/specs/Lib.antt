@@ -1,1 +1,1 @@
-pub mod Offered
+pub mod Contract

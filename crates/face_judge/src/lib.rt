@@ -9,8 +9,9 @@ ghost use Prim.Native.Nat.{_+_, _*_, _<_, _/_, _^_};
 ghost use lib.ListN.{length};
 ghost use lib.Seq.{sets};
 ghost use Rattle.coords.specs.Buffers.{verticesIn};
-ghost use Rattle.face_triangle.specs.Triangles.{triangle, TriangleLow, triangleAt, trianglesIn};
-ghost use Rattle.face_judge.specs.Offered.{sideOf, sideIn, indicesOf, gathered, quadTriangles, TrianglesAmong, CanOffer, OffersOne, OffersAll};
+ghost use Rattle.face_triangle.specs.Triangles.{triangle};
+ghost use Rattle.face_triangle.specs.Contract.Triangles.{TriangleLow, triangleAt, trianglesIn};
+ghost use Rattle.face_judge.specs.Contract.Offered.{sideOf, sideIn, indicesOf, gathered, quadTriangles, TrianglesAmong, CanOffer, OffersOne, OffersAll};
 use coords::Point;
 use coords_vector::Vector;
 

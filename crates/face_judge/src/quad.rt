@@ -6,7 +6,7 @@ ghost use lib.Ieee.{lt};
 ghost use Rattle.coords_vector.specs.declared.Vector.{Vector};
 ghost use Rattle.coords_vector.specs.Vectors.{cross, norm};
 ghost use Rattle.coords.specs.Coords.{diff};
-ghost use Rattle.face_judge.specs.Offered.{offerAll, quadTriangles};
+ghost use Rattle.face_judge.specs.Contract.Offered.{offerAll, quadTriangles};
 use coords::Point;
 
 fn is_thin(limit: f32, a: Point, b: Point, c: Point) -> bool

@@ -1,8 +1,5 @@
--- A triangle of a face, and triangles as numbers in a slice. Definitions only.
-use Prim.Native.Nat.{ℕ, _+_, _*_, _<_, _/_}
-use mathlib.Core.List.{List, [], _∷_}
-use lib.ListN.{length, getD}
-use Rattle.lists.specs.Loops.{list}
+-- A triangle of a face. Definitions only.
+use Prim.Native.Nat.{ℕ}
 
 -- three corners, each the number of one of the face's points
 pub record Triangle : Type 0 where
@@ -12,18 +9,3 @@ pub record Triangle : Type 0 where
 
 abbrev pub triangle : ℕ → ℕ → ℕ → Triangle
 triangle i j k = record { a = i; b = j; c = k }
-
--- the corner numbers of a face's triangles are numbers of its points
-abbrev pub TriangleLow : ℕ → Triangle → Type 0
-TriangleLow n t = (t .a < n) × (t .b < n) × (t .c < n)
-
--- ---- triangles as numbers in a slice, three to one
-
-abbrev pub triangleRecord : Triangle → List ℕ
-triangleRecord t = t .a ∷ t .b ∷ t .c ∷ []
-
-abbrev pub triangleAt : List ℕ → ℕ → Triangle
-triangleAt xs k = triangle (getD xs (3 * k) 0) (getD xs (3 * k + 1) 0) (getD xs (3 * k + 2) 0)
-
-unfoldable pub trianglesIn : List ℕ → List Triangle
-trianglesIn xs = list (triangleAt xs) (length xs / 3) 0

@@ -3,7 +3,7 @@ use lib.Ieee.{add, sub, mul, div, lt, eq, le, ofBits, toBits, round, units, size
 use Rattle.float.specs.Rounding.{rootStep, rootIn, root, rounded, rootOf, squareRoot, convert}
 use Rattle.float.specs.Signs.{magnitude, signum, larger, totalLess}
 use Rattle.float.specs.Number.{isFinite, allowed32, allowed64}
-use Rattle.float.specs.Thin.{middle, thinBound}
+use Rattle.float.specs.Contract.Thin.{middle, thinBound}
 
 unfoldable pub computes : Unit {0}
 unfolding add sub mul div lt eq le ofBits toBits round units size isNan rootStep rootIn root rounded rootOf squareRoot convert magnitude signum larger totalLess isFinite allowed32 allowed64 middle thinBound

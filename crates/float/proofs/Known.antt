@@ -6,7 +6,7 @@ use lib.IntN.{pos, negsuc}
 use lib.Ieee.{nan, inf, fin, binary32, binary64, ofBits}
 use Rattle.float.specs.Rounding.{squareRoot, convert}
 use Rattle.float.specs.Signs.{signum}
-use Rattle.float.specs.Thin.{thinBound}
+use Rattle.float.specs.Contract.Thin.{thinBound}
 
 -- 1 + 3 * 2 ^ -24 narrows to 1 + 2 ^ -22
 narrows : convert binary32 (fin false (2 ^ 24 + 3) (negsuc 23)) ≡ fin false (2 ^ 22 + 1) (negsuc 21)

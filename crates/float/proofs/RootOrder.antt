@@ -14,7 +14,7 @@ use lib.Ieee.Exact.{HasValue}
 use lib.Ieee.Positive.{num, den, den-pos, positive, own-value, le→cross, through, above, above-of-le}
 use borrow.Author.Tests.{le-ltb, ltb-false}
 use Rattle.float.specs.Rounding.{squareRoot}
-use Rattle.float.specs.Thin.{thinBound}
+use Rattle.float.specs.Contract.Thin.{thinBound}
 use Rattle.float.proofs.Thin.{naught, thin, root-low, root-of, lt-no, lt-yes, apart, zero-below, below-zero, above-bound, bound-is, steps, inf-below-none, minus-infinity}
 
 irreflexive : (x : Float) → lt x x ≡ false

@@ -19,9 +19,10 @@ use lib.Ieee.Exact.{HasValue, round-exact}
 use lib.Ieee.Order.{transfer}
 use lib.Ieee.Positive.{first-pos, positive-of-value, mul-at}
 use borrow.Author.Tests.{lt-ltb, le-ltb, lt-leb, leb-false, ltb-true, ltb-false}
-use Rattle.float.specs.Rounding.{root, squareRoot, significand, exponent, field}
+use Rattle.float.specs.Rounding.{root, squareRoot}
+use Rattle.float.specs.Contract.Rounding.{significand, exponent, field}
 use Rattle.float.specs.Signs.{negative}
-use Rattle.float.specs.Thin.{middle, thinBound}
+use Rattle.float.specs.Contract.Thin.{middle, thinBound}
 use Rattle.float.proofs.Rounding.{pattern-le, Number, value, powers, read, significand-high, significand-low}
 use Rattle.float.proofs.Signs.{sign-bit}
 use Rattle.float.proofs.Root.{root-is, root-ge, root-lt, zeros-lt, sqrt-bits}

@@ -1,4 +1,4 @@
 pub mod Rounding
 pub mod Signs
 pub mod Number
-pub mod Thin
+pub mod Contract

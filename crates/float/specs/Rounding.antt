@@ -1,9 +1,9 @@
 -- Document 01, section 3: rounding to a format of IEEE 754, for numbers that need not be fractions: the square root, and narrowing from binary64 to binary32.
 -- The formats, `units` and `nearest` are those of the logic's account of IEEE 754 (lib.Ieee).
-use Prim.Native.Nat.{ℕ, zero, suc, _+_, _-_, _*_, _/_, _%_, _^_, compare, Ordering}
+use Prim.Native.Nat.{ℕ, zero, suc, _+_, _-_, _*_, _/_, _^_, compare, Ordering}
 use mathlib.Core.Bool.{Bool, false, cond}
-use lib.Dec.{leb, eqb}
-use lib.Ieee.{Float, nan, inf, fin, Format, prec, low, hid, top, up, down, size, nearest, units, round}
+use lib.Dec.{leb}
+use lib.Ieee.{Float, nan, inf, fin, Format, prec, low, up, down, size, nearest, units, round}
 
 -- ---- the whole square root
 
@@ -61,14 +61,3 @@ unfolding round
 convert f nan = nan
 convert f (inf s) = inf s
 convert f (fin s m e) = round f s (m * up e) (down e)
-
--- ---- a finite number's bit pattern b, taken apart: b's value is significand * 2 ^ exponent of the format's smallest values
-
-abbrev pub field : Format → ℕ → ℕ
-field f b = b % top f / hid f
-
-abbrev pub significand : Format → ℕ → ℕ
-significand f b = cond (eqb (field f b) 0) (b % hid f) (hid f + b % hid f)
-
-abbrev pub exponent : Format → ℕ → ℕ
-exponent f b = field f b - 1

@@ -5,7 +5,8 @@ ghost use Prim.Native.Nat.{_+_, _^_, _%_, _≤_, _<_};
 ghost use lib.Dec.{leb};
 ghost use lib.Ieee.{binary32, binary64, ofBits};
 ghost use lib.Ieee.Nearest.{closest};
-ghost use Rattle.float.specs.Rounding.{convert, significand, exponent};
+ghost use Rattle.float.specs.Rounding.{convert};
+ghost use Rattle.float.specs.Contract.Rounding.{significand, exponent};
 
 // The digits of a finite number's pattern, with the leading one that a normal number leaves out,
 // and how far they stand above the smallest value's.

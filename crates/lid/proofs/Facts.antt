@@ -16,7 +16,8 @@ use Rattle.lists.specs.Each.{Each}
 use Rattle.lists.specs.Loops.{first, fold, list, sumOf, countOf, removeAt}
 use Rattle.float.specs.Number.{zerof}
 use Rattle.float.specs.Signs.{totalLess}
-use Rattle.face_triangle.specs.Triangles.{Triangle, TriangleLow, triangle}
+use Rattle.face_triangle.specs.Triangles.{Triangle, triangle}
+use Rattle.face_triangle.specs.Contract.Triangles.{TriangleLow}
 use Rattle.lid.specs.declared.Flat.{Flat}
 use Rattle.lid.specs.declared.Bridged.{Bridged}
 use Rattle.lid.specs.declared.Bridged.the-variants.{Unjoined, Joined}

@@ -3,6 +3,5 @@ pub mod Rings
 pub mod Bridges
 pub mod Clipping
 pub mod Lid
-pub mod Written
-pub mod Steps
 pub mod Areas
+pub mod Contract

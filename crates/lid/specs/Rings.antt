@@ -6,9 +6,7 @@ use mathlib.Core.List.{List, [], _∷_, reverse}
 use lib.ListN.{length, getD}
 use lib.Dec.{ltb}
 use lib.Ieee.{Float, lt}
-use denote.Ref.{now}
 use Rattle.lists.specs.Loops.{next, loop, fold, list}
-use Rattle.lists.specs.Slices.{Slice}
 use Rattle.float.specs.Number.{_+f_, _-f_, _*f_, zerof, minArea, minf}
 use Rattle.float.specs.Signs.{magnitude, larger, totalLess}
 use Rattle.lid.specs.declared.Flat.{Flat}
@@ -21,14 +19,6 @@ placeOf i = record { 0 = i }
 
 abbrev pub flat0 : Flat
 flat0 = record { x = zerof; y = zerof }
-
--- the flat corners whose coordinates two lists hold
-unfoldable pub flats : List Float → List Float → List Flat
-flats xs ys = list (λ i. record { x = getD xs i zerof; y = getD ys i zerof }) (length xs) 0
-
--- and those of two slices, as they are lent
-abbrev pub flatsIn : Slice Float → Slice Float → List Flat
-flatsIn xs ys = flats (now (xs .entry)) (now (ys .entry))
 
 unfoldable pub corner : List Flat → ℕ → Flat
 corner fs i = getD fs i flat0

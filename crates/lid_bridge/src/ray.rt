@@ -2,7 +2,7 @@
 ghost use mathlib.Core.Path.{_≡_};
 ghost use Prim.Native.Nat.{_+_, _<_};
 ghost use lib.ListN.{length};
-ghost use Rattle.lid.specs.Rings.{flatsIn};
+ghost use Rattle.lid.specs.Contract.Rings.{flatsIn};
 ghost use Rattle.lid.specs.Bridges.{rightmostStep, rightmost, passes, meets, noNearer, hitEdge, hitAt, firstHit};
 use lid::Flat;
 use lid::Hit;

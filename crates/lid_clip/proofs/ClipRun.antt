@@ -18,8 +18,8 @@ use Rattle.lid.specs.declared.Step.the-variants.{Cut, Stop}
 use Rattle.lid.specs.Log.{Entry, logged}
 use Rattle.lid.specs.Clipping.{isEar, cutEar, clipStep, clip, clipBy}
 use Rattle.lid.specs.Lid.{earsOf}
-use Rattle.lid.specs.Written.{logWith, trianglesWith}
-use Rattle.lid.specs.Steps.{cutEntry, Cuts, Clips}
+use Rattle.lid.specs.Contract.Written.{logWith, trianglesWith}
+use Rattle.lid.specs.Contract.Steps.{cutEntry, Cuts, Clips}
 use Rattle.lid.proofs.Facts.{clipStep-ok}
 use Rattle.lid_log.proofs.RecordLaws.{log-next, log-end, triangles-some, triangle-end}
 

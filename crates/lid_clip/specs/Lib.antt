@@ -1,1 +1,1 @@
-pub mod StepNotes
+pub mod Contract

@@ -10,8 +10,8 @@ use Rattle.float.proofs.Computes.{computes as float-computes}
 use Rattle.lid.specs.declared.Flat.{Flat}
 use Rattle.lid.specs.declared.Tested.the-variants.{Ear}
 use Rattle.lid.proofs.Computes.{computes as lid-computes}
-use Rattle.lid_clip_ear.specs.Notes.{failedAt, down, movedBy, without}
-use Rattle.lid_clip_ear.specs.Ears.{fails, told, tested, looked, noteDown, searched}
+use Rattle.lid_clip_ear.specs.Contract.Notes.{failedAt, down, movedBy, without}
+use Rattle.lid_clip_ear.specs.Contract.Ears.{fails, told, tested, looked, noteDown, searched}
 use Rattle.lid_clip_cost.specs.Cost.{calls, placeTests, laterTests, searchTests, behindTests, clipTests}
 
 abbrev pub threef : Float

@@ -19,9 +19,9 @@ use Rattle.lid.specs.declared.Tested.{Tested}
 use Rattle.lid.specs.declared.Tested.the-variants.{Ear, No}
 use Rattle.lid.specs.Clipping.{clipStep}
 use Rattle.lid.proofs.Facts.{removeAt-size, clipStep-ok, joinedAll, ring-size}
-use Rattle.lid_clip_ear.specs.Notes.{failedAt, moved, without}
+use Rattle.lid_clip_ear.specs.Contract.Notes.{failedAt, moved, without}
 use Rattle.lid_clip_ear.proofs.NoteLaws.{Moves, stays, goes-on, falls, moves}
-use Rattle.lid_clip_ear.specs.Ears.{fails, told, tested, looked, noteDown, searched}
+use Rattle.lid_clip_ear.specs.Contract.Ears.{fails, told, tested, looked, noteDown, searched}
 use Rattle.lid_clip_cost.specs.Cost.{calls, placeTests, laterTests, searchTests, behindTests, clipTests}
 
 -- ---- how many tests of a place its note tells of

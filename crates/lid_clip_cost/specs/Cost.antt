@@ -11,8 +11,8 @@ use Rattle.lid.specs.declared.Step.the-variants.{Cut, Stop}
 use Rattle.lid.specs.declared.Tested.{Tested}
 use Rattle.lid.specs.declared.Tested.the-variants.{Ear, No}
 use Rattle.lid.specs.Clipping.{clipStep}
-use Rattle.lid_clip_ear.specs.Notes.{without}
-use Rattle.lid_clip_ear.specs.Ears.{fails, looked, searched}
+use Rattle.lid_clip_ear.specs.Contract.Notes.{without}
+use Rattle.lid_clip_ear.specs.Contract.Ears.{fails, looked, searched}
 
 -- how many tests `first p m k` makes
 unfoldable pub calls : (ℕ → Bool) → ℕ → ℕ → ℕ

@@ -23,9 +23,9 @@ use Rattle.lid.specs.declared.Tested.the-variants.{Ear, No}
 use Rattle.lid.specs.Rings.{turnOf}
 use Rattle.lid.specs.Clipping.{before, here, after, clear, isEar}
 use Rattle.lid.proofs.Facts.{removeAt-size}
-use Rattle.lid_clip_ear.specs.Notes.{failedAt, moved, without}
+use Rattle.lid_clip_ear.specs.Contract.Notes.{failedAt, moved, without}
 use Rattle.lid_clip_ear.proofs.NoteLaws.{rem-low, rem-high, Moves, stays, goes-on, falls, moves}
-use Rattle.lid_clip_ear.specs.Ears.{fails, Noted, Known, told, tested, looked, noteDown, searched}
+use Rattle.lid_clip_ear.specs.Contract.Ears.{fails, Noted, Known, told, tested, looked, noteDown, searched}
 use Rattle.lid_clip_ear.proofs.FirstLaws.{Hit, first-hit, first-miss}
 
 -- ---- the tests and the ear

@@ -8,7 +8,7 @@ use lib.Dec.{eqb}
 use borrow.Author.Tests.{eqb-true, eqb-false}
 use Rattle.lists.specs.declared.Found.the-variants.{At, Nowhere}
 use Rattle.lists.specs.Loops.{first}
-use Rattle.lid_clip_ear.specs.Ears.{behind}
+use Rattle.lid_clip_ear.specs.Contract.Ears.{behind}
 
 -- j is the first of the m numbers from k on that passes the test
 pub record Hit (p : ℕ → Bool) (m k j : ℕ) : Type 0 where

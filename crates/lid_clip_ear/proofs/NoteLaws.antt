@@ -13,7 +13,7 @@ use borrow.Author.Tests.{eqb-true, eqb-false, ltb-true, ltb-false, lt-ltb, le-lt
 use Rattle.lists.specs.Loops.{next, previous, removeAt}
 use Rattle.lists.proofs.Lists.{getD-any, map-append}
 use Rattle.lid.proofs.Areas.Ring.{removeAt-is}
-use Rattle.lid_clip_ear.specs.Notes.{down, movedBy, moved, capped, without}
+use Rattle.lid_clip_ear.specs.Contract.Notes.{down, movedBy, moved, capped, without}
 
 -- ---- places after a removal
 

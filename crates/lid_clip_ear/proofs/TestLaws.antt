@@ -13,9 +13,9 @@ use Rattle.lid.specs.declared.Corners.{Corners}
 use Rattle.lid.specs.declared.Tested.the-variants.{No}
 use Rattle.lid.specs.Rings.{corner, turn, turnOf}
 use Rattle.lid.specs.Clipping.{before, here, after, clear}
-use Rattle.lid.specs.Steps.{cornersAround}
-use Rattle.lid_clip_ear.specs.Notes.{failedAt}
-use Rattle.lid_clip_ear.specs.Ears.{fails, told, tested, blocks, behind}
+use Rattle.lid.specs.Contract.Steps.{cornersAround}
+use Rattle.lid_clip_ear.specs.Contract.Notes.{failedAt}
+use Rattle.lid_clip_ear.specs.Contract.Ears.{fails, told, tested, blocks, behind}
 use Rattle.lid_clip_ear.proofs.FirstLaws.{first-behind, first-same}
 
 module _ (fs : List Flat) (ring : List ℕ) (i q : ℕ) (t : Corners) (a b c : Flat) (corners : t ≡ cornersAround ring i)

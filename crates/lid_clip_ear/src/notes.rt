@@ -5,7 +5,7 @@ ghost use mathlib.Core.Path.{_≡_};
 ghost use mathlib.Core.List.{map};
 ghost use Prim.Native.Nat.{_+_, _-_, _<_};
 ghost use lib.ListN.{length, take, replicate};
-ghost use Rattle.lid_clip_ear.specs.Notes.{failedAt, capped, down, movedBy, movedBehind, PlaceForgotten};
+ghost use Rattle.lid_clip_ear.specs.Contract.Notes.{failedAt, capped, down, movedBy, movedBehind, PlaceForgotten};
 use lid::RingPlace;
 use lid_ring::place::place_after;
 use lid_ring::place::place_before;

@@ -14,9 +14,9 @@ use Rattle.lid.specs.declared.Clipped.{Clipped}
 use Rattle.lid.specs.Log.{Entry, entry}
 use Rattle.lid.specs.Clipping.{clip}
 use Rattle.lid.specs.Lid.{earsOf, lastTriangle}
-use Rattle.lid.specs.Written.{logWith, trianglesWith, WritesLid}
-use Rattle.lid.specs.Steps.{Clips}
-use Rattle.lid_cut.specs.CutRing.{ringEntries, ringTriangles}
+use Rattle.lid.specs.Contract.Written.{logWith, trianglesWith, WritesLid}
+use Rattle.lid.specs.Contract.Steps.{Clips}
+use Rattle.lid_cut.specs.Contract.CutRing.{ringEntries, ringTriangles}
 use Rattle.lid.proofs.Facts.{clip-size}
 use Rattle.lid_log.proofs.RecordLaws.{log-some, triangles-some}
 

@@ -1,1 +1,1 @@
-pub mod CutRing
+pub mod Contract

@@ -10,7 +10,8 @@ use Rattle.lists.specs.Loops.{list}
 use Rattle.lists.proofs.Lists.{getD-list, getD-any, length-list}
 use Rattle.float.specs.Number.{zerof}
 use Rattle.lid.specs.declared.Flat.{Flat}
-use Rattle.lid.specs.Rings.{flats, corner, flat0}
+use Rattle.lid.specs.Rings.{corner, flat0}
+use Rattle.lid.specs.Contract.Rings.{flats}
 
 abbrev flat : Float → Float → Flat
 flat x y = record { x = x; y = y }

@@ -2,7 +2,8 @@
 ghost use mathlib.Core.Path.{_≡_};
 ghost use Prim.Native.Nat.{_<_};
 ghost use lib.ListN.{length, getD};
-ghost use Rattle.lid.specs.Rings.{flatsIn, corner, turn};
+ghost use Rattle.lid.specs.Rings.{corner, turn};
+ghost use Rattle.lid.specs.Contract.Rings.{flatsIn};
 use lid::CornerNumber;
 use lid::Flat;
 use lid::RingPlace;

@@ -12,9 +12,9 @@ use Rattle.lists.specs.Loops.{sumOf}
 use Rattle.lists.proofs.Lists.{sum-append, length-list}
 use Rattle.lid.specs.declared.Flat.{Flat}
 use Rattle.lid.specs.Rings.{tooSmall, turnHole}
-use Rattle.lid.specs.Written.{cornerTotal}
-use Rattle.lid.specs.Steps.{turned}
-use Rattle.lid_hole.specs.Holes.{holeStart, holeCorners}
+use Rattle.lid.specs.Contract.Written.{cornerTotal}
+use Rattle.lid.specs.Contract.Steps.{turned}
+use Rattle.lid_hole.specs.Contract.Holes.{holeStart, holeCorners}
 use Rattle.lid.proofs.Areas.Lid.{turnHole-length}
 use Rattle.lid_ring.proofs.RingLaws.{up}
 use Rattle.lid_splice.proofs.SpliceLaws.{front-back}

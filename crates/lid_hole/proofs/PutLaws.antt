@@ -10,8 +10,8 @@ use lib.Seq.{take-suc, drop-cons, take-take, length-take-le}
 use lib.Ieee.{Float}
 use Rattle.float.specs.Number.{zerof}
 use Rattle.float.specs.Signs.{totalLess}
-use Rattle.lid.specs.Steps.{insertAt}
-use Rattle.lid_hole.specs.Order.{insertBy, orderStep, Ordered}
+use Rattle.lid.specs.Contract.Steps.{insertAt}
+use Rattle.lid_hole.specs.Contract.Order.{insertBy, orderStep, Ordered}
 use Rattle.lid_splice.proofs.SpliceLaws.{front-back}
 
 module _ (rights : List Float) (g : ℕ) (order t : List ℕ) (i : ℕ) (inv : take i order ++ insertBy rights g (drop i order) ≡ t) where

@@ -9,8 +9,8 @@ use lib.ListN.{length, take, set, length-append}
 use Rattle.lists.specs.Loops.{list}
 use Rattle.lists.proofs.Loops.{list-step}
 use Rattle.lid.specs.Log.{Entry, entry}
-use Rattle.lid.specs.Written.{logWith}
-use Rattle.lid_hole.specs.Holes.{skips}
+use Rattle.lid.specs.Contract.Written.{logWith}
+use Rattle.lid_hole.specs.Contract.Holes.{skips}
 use Rattle.lid_log.proofs.RecordLaws.{log-some}
 use Rattle.lid_ring.proofs.RingLaws.{fill-next}
 

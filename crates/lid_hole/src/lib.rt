@@ -6,9 +6,10 @@ pub mod survey;
 ghost use mathlib.Core.Path.{_≡_};
 ghost use Prim.Native.Nat.{_<_, _≤_, _^_};
 ghost use lib.ListN.{length, getD, take};
-ghost use Rattle.lid.specs.Rings.{flatsIn, tooSmall};
-ghost use Rattle.lid.specs.Written.{cornerTotal};
-ghost use Rattle.lid_hole.specs.Holes.{holeStart, holeCorners, holeRing};
+ghost use Rattle.lid.specs.Rings.{tooSmall};
+ghost use Rattle.lid.specs.Contract.Rings.{flatsIn};
+ghost use Rattle.lid.specs.Contract.Written.{cornerTotal};
+ghost use Rattle.lid_hole.specs.Contract.Holes.{holeStart, holeCorners, holeRing};
 use lid_ring::write_ring;
 
 // The number of hole g's first corner; past the last hole, how many corners there are.

@@ -3,8 +3,8 @@ ghost use mathlib.Core.Path.{_≡_};
 ghost use Prim.Native.Nat.{_+_, _-_, _<_, _≤_, _^_};
 ghost use lib.ListN.{length, getD, take};
 ghost use Rattle.float.specs.Number.{zerof};
-ghost use Rattle.lid.specs.Steps.{insertAt};
-ghost use Rattle.lid_hole.specs.Order.{insertBy, orderStep, orderOf, Ordered};
+ghost use Rattle.lid.specs.Contract.Steps.{insertAt};
+ghost use Rattle.lid_hole.specs.Contract.Order.{insertBy, orderStep, orderOf, Ordered};
 use lid::RingPlace;
 use lid_splice::insert;
 

@@ -15,9 +15,9 @@ use Rattle.lid.specs.declared.Bridged.the-variants.{Unjoined, Joined}
 use Rattle.lid.specs.Log.{entry, Logged, logged}
 use Rattle.lid.specs.Rings.{turnHole}
 use Rattle.lid.specs.Bridges.{bridge, splice, spliced, bridgeEntry, joinAll}
-use Rattle.lid.specs.Written.{logWith}
-use Rattle.lid_hole.specs.Holes.{holeCorners, holeAt, Joinable}
-use Rattle.lid_join.specs.Joined.{Joins, JoinsAll}
+use Rattle.lid.specs.Contract.Written.{logWith}
+use Rattle.lid_hole.specs.Contract.Holes.{holeCorners, holeAt, Joinable}
+use Rattle.lid_join.specs.Contract.Joined.{Joins, JoinsAll}
 use Rattle.lid.proofs.Areas.Lid.{BridgeIn, bridge-in}
 use Rattle.lid.proofs.Facts.{splice-size}
 use Rattle.lid_hole.proofs.HoleLaws.{hole-size}

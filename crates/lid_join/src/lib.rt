@@ -2,10 +2,10 @@
 ghost use Prim.Native.Nat.{_+_, _<_, _≤_, _^_};
 ghost use lib.ListN.{length, getD};
 ghost use Rattle.lists.specs.Each.{Each};
-ghost use Rattle.lid.specs.Rings.{flatsIn};
-ghost use Rattle.lid.specs.Written.{cornerTotal};
-ghost use Rattle.lid_hole.specs.Holes.{holeRing, holesNumbered, Joinable};
-ghost use Rattle.lid_join.specs.Joined.{HoleJoined, HolesJoined, placesJoined};
+ghost use Rattle.lid.specs.Contract.Rings.{flatsIn};
+ghost use Rattle.lid.specs.Contract.Written.{cornerTotal};
+ghost use Rattle.lid_hole.specs.Contract.Holes.{holeRing, holesNumbered, Joinable};
+ghost use Rattle.lid_join.specs.Contract.Joined.{HoleJoined, HolesJoined, placesJoined};
 use lid::Bridged;
 use lid_bridge::bridge;
 use lid_hole::write_hole;

@@ -8,7 +8,7 @@ use Rattle.lists.specs.Loops.{join}
 use Rattle.lists.proofs.Stores.{records-behind}
 use Rattle.face_triangle.specs.Triangles.{Triangle}
 use Rattle.lid.specs.Log.{Entry, entryRecord, logNumbers}
-use Rattle.lid.specs.Written.{triangleRecord, triangleNumbers, logWith, trianglesWith}
+use Rattle.lid.specs.Contract.Written.{triangleRecord, triangleNumbers, logWith, trianglesWith}
 
 -- records of w numbers each: some were written, and the rest goes behind them
 module _ {A : Type 0} (write : A → List ℕ) (w : ℕ) (size : (a : A) → length (write a) ≡ w) where

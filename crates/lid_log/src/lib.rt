@@ -4,7 +4,7 @@ ghost use mathlib.Core.List.{_∷_, []};
 ghost use Prim.Native.Nat.{_*_};
 ghost use Rattle.face_triangle.specs.Triangles.{triangle};
 ghost use Rattle.lid.specs.Log.{entry};
-ghost use Rattle.lid.specs.Written.{logWith, trianglesWith};
+ghost use Rattle.lid.specs.Contract.Written.{logWith, trianglesWith};
 use buffer::numbers::put_four;
 use buffer::numbers::put_numbers;
 use lid::ENTRY_WIDTH;

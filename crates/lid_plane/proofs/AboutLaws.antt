@@ -4,7 +4,7 @@ use mathlib.Core.List.{List}
 use Rattle.coords_vector.specs.declared.Vector.{Vector}
 use Rattle.object.specs.declared.Corner.{Corner}
 use Rattle.lid_plane.specs.Plane.{areaNormal, basesOf, about}
-use Rattle.lid_plane.specs.Steps.{aboutFrom}
+use Rattle.lid_plane.specs.Contract.Steps.{aboutFrom}
 
 pub about-from : (cs : List Corner) (lid : Vector) → aboutFrom (areaNormal (basesOf cs)) lid ≡ about cs lid
 unfolding about

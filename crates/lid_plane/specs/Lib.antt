@@ -1,2 +1,2 @@
 pub mod Plane
-pub mod Steps
+pub mod Contract

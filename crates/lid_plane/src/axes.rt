@@ -2,7 +2,7 @@
 // runs about it, the plane's first axis, and a top's coordinates along both axes.
 ghost use mathlib.Core.Path.{_≡_};
 ghost use Rattle.lid_plane.specs.Plane.{firstAxis};
-ghost use Rattle.lid_plane.specs.Steps.{aboutFrom, flatOn, axisAcross};
+ghost use Rattle.lid_plane.specs.Contract.Steps.{aboutFrom, flatOn, axisAcross};
 use coords::Point;
 use coords_vector::Vector;
 use lid::Flat;

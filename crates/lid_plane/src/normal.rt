@@ -1,7 +1,7 @@
 // The steps of `lid_normal`: a caller reads an outline's corners one at a time.
 ghost use mathlib.Core.Path.{_≡_};
 ghost use Rattle.lid_plane.specs.Plane.{riseStep};
-ghost use Rattle.lid_plane.specs.Steps.{areaNormalAt, lidNormalFrom};
+ghost use Rattle.lid_plane.specs.Contract.Steps.{areaNormalAt, lidNormalFrom};
 use coords::Point;
 use coords_vector::Vector;
 use float::MIN_AREA;

@@ -16,7 +16,7 @@ use Rattle.float.specs.Number.{zerof, minArea}
 use Rattle.float.specs.Signs.{magnitude}
 use Rattle.lid.specs.declared.Flat.{Flat}
 use Rattle.lid.specs.Rings.{area, tooSmall, turnOuter, turnHole}
-use Rattle.lid.specs.Steps.{turned}
+use Rattle.lid.specs.Contract.Steps.{turned}
 
 -- a list filled from the front: one more element, and the end
 pub fill-next : {A : Type 0} (l : List A) (k : ℕ) (v : A) (more all : List A) → k < length l → take k l ++ v ∷ more ≡ all → take (k + 1) (set l k v) ++ more ≡ all

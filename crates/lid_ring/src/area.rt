@@ -2,7 +2,8 @@
 ghost use mathlib.Core.Path.{_≡_};
 ghost use Prim.Native.Nat.{_+_, _<_};
 ghost use lib.ListN.{length};
-ghost use Rattle.lid.specs.Rings.{flatsIn, areaStep, area, rightStep, right};
+ghost use Rattle.lid.specs.Rings.{areaStep, area, rightStep, right};
+ghost use Rattle.lid.specs.Contract.Rings.{flatsIn};
 use crate::place::place_after;
 use lid::CornerNumber;
 use lid::RingPlace;

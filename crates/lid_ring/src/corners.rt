@@ -2,7 +2,7 @@
 ghost use mathlib.Core.Path.{_≡_};
 ghost use Prim.Native.Nat.{_<_};
 ghost use lib.ListN.{length, getD};
-ghost use Rattle.lid.specs.Steps.{cornerOf, cornersAround};
+ghost use Rattle.lid.specs.Contract.Steps.{cornerOf, cornersAround};
 use crate::place::place_after;
 use crate::place::place_before;
 use lid::CornerNumber;

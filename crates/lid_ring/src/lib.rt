@@ -9,8 +9,9 @@ ghost use mathlib.Core.List.{reverse};
 ghost use Prim.Native.Nat.{_+_, _-_, _<_, _≤_, _^_};
 ghost use lib.ListN.{length};
 ghost use Rattle.lists.specs.Loops.{list};
-ghost use Rattle.lid.specs.Rings.{flatsIn, tooSmall};
-ghost use Rattle.lid.specs.Steps.{turned};
+ghost use Rattle.lid.specs.Rings.{tooSmall};
+ghost use Rattle.lid.specs.Contract.Rings.{flatsIn};
+ghost use Rattle.lid.specs.Contract.Steps.{turned};
 use crate::area::area;
 use float::MIN_AREA;
 

@@ -11,7 +11,7 @@ use lib.ListN.{length, getD, take, drop, set, drop-of-length-le, length-append, 
 use lib.Seq.{take-set-lt, getD-take, getD-drop, getD-append-add, set-split, set-at, take-all, take-length, take-take, take-append-le, take-at, drop-at, take-suc, drop-cons, append-snoc, length-take-le, paste, paste-suc}
 use borrow.Author.Tests.{ltb-true, ltb-false}
 use Rattle.lid.specs.Bridges.{splice}
-use Rattle.lid.specs.Steps.{insertAt}
+use Rattle.lid.specs.Contract.Steps.{insertAt}
 
 insert-suc : (l : List ℕ) (j c : ℕ) → j < length l → insertAt (suc j) (getD l j 0) (set l j c) ≡ insertAt j c l
 unfolding insertAt

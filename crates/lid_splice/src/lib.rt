@@ -4,7 +4,7 @@ ghost use mathlib.Core.List.{_++_};
 ghost use Prim.Native.Nat.{_+_, _<_, _≤_};
 ghost use lib.ListN.{length, take, drop};
 ghost use Rattle.lid.specs.Bridges.{splice};
-ghost use Rattle.lid.specs.Steps.{insertAt, butLast};
+ghost use Rattle.lid.specs.Contract.Steps.{insertAt, butLast};
 use lid::RingPlace;
 
 // Inserts v at a place: those from there on move up, over the last place.

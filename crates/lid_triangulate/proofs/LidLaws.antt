@@ -19,13 +19,13 @@ use Rattle.lid.specs.Rings.{Hole, tooSmall, turnOuter, ringsFrom, holesFrom, sk
 use Rattle.lid.specs.Bridges.{joinAll}
 use Rattle.lid.specs.Clipping.{clip}
 use Rattle.lid.specs.Lid.{lidFrom, lidRings, lidOf}
-use Rattle.lid.specs.Written.{logWith, triangleNumbers, cornerTotal, WritesLid}
-use Rattle.lid.specs.Steps.{turned}
-use Rattle.lid_hole.specs.Holes.{holeStart, holeAt, rightsOf, smallOf, skips, Joinable}
-use Rattle.lid_hole.specs.Order.{orderOf, Ordered}
-use Rattle.lid_cut.specs.CutRing.{ringEntries, ringTriangles}
-use Rattle.lid_triangulate.specs.Opened.{openEntries, openTriangles, lidOpen, BuffersFit, Prepares}
-use Rattle.lid_join.specs.Joined.{JoinsAll}
+use Rattle.lid.specs.Contract.Written.{logWith, triangleNumbers, cornerTotal, WritesLid}
+use Rattle.lid.specs.Contract.Steps.{turned}
+use Rattle.lid_hole.specs.Contract.Holes.{holeStart, holeAt, rightsOf, smallOf, skips, Joinable}
+use Rattle.lid_hole.specs.Contract.Order.{orderOf, Ordered}
+use Rattle.lid_cut.specs.Contract.CutRing.{ringEntries, ringTriangles}
+use Rattle.lid_triangulate.specs.Contract.Opened.{openEntries, openTriangles, lidOpen, BuffersFit, Prepares}
+use Rattle.lid_join.specs.Contract.Joined.{JoinsAll}
 use Rattle.lid.proofs.Facts.{joinAll-log, holes-each, rings-count}
 use Rattle.lid_hole.proofs.HoleLaws.{start-last}
 use Rattle.lid_triangulate.proofs.OrderLaws.{order-is, skips-are, order-joinable, order-adds, sum-two}

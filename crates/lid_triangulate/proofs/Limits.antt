@@ -22,7 +22,7 @@ use Rattle.lid.specs.Log.{Entry, entry, entryRecord, logNumbers, Logged}
 use Rattle.lid.specs.Rings.{turnOf, tooSmall, ringsFrom, skippedFrom}
 use Rattle.lid.specs.Clipping.{clip}
 use Rattle.lid.specs.Lid.{Lid, earsOf, lastTriangle, lidFrom, lidRings, lidOf}
-use Rattle.lid.specs.Written.{triangleRecord, triangleNumbers, logWith, trianglesWith, cornerTotal}
+use Rattle.lid.specs.Contract.Written.{triangleRecord, triangleNumbers, logWith, trianglesWith, cornerTotal}
 use Rattle.lid.proofs.Facts.{joinedAll, ring-size, open-size, clip-size}
 use Rattle.lid_cut.proofs.CutLaws.{ears-few}
 use Rattle.lid_triangulate.proofs.OrderLaws.{sum-two}

@@ -20,8 +20,8 @@ use Rattle.float.specs.Signs.{totalLess}
 use Rattle.lid.specs.declared.Flat.{Flat}
 use Rattle.lid.specs.Log.{Entry, entry}
 use Rattle.lid.specs.Rings.{Hole, tooSmall, right, ringsFrom, holesFrom, skippedFrom, insert, inOrder}
-use Rattle.lid_hole.specs.Holes.{holeStart, holeCorners, holeAt, rightsOf, smallOf, skips, Joinable}
-use Rattle.lid_hole.specs.Order.{insertBy, orderStep, orderOf}
+use Rattle.lid_hole.specs.Contract.Holes.{holeStart, holeCorners, holeAt, rightsOf, smallOf, skips, Joinable}
+use Rattle.lid_hole.specs.Contract.Order.{insertBy, orderStep, orderOf}
 use Rattle.lid.proofs.Facts.{adds, inOrder-sum, holesFrom-sum}
 use Rattle.lid_hole.proofs.HoleLaws.{start-first, start-next, count-low, hole-size}
 

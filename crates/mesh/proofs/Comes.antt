@@ -12,7 +12,7 @@ use Rattle.lists.specs.Loops.{join, sumOf}
 use Rattle.object.specs.Object.{Object}
 use Rattle.scene.specs.declared.headers.Body.{Body}
 use Rattle.scene.specs.declared.headers.Body.the-variants.{Solid, Outline, Sweep}
-use Rattle.scene.specs.Headers.{bodyAt, bodySize, headerAt, objectOf, Limits}
+use Rattle.scene.specs.Contract.Headers.{bodyAt, bodySize, headerAt, objectOf, Limits}
 use Rattle.scene.specs.Scene.{accepted, scene, trailer, countAt}
 use Rattle.scene.proofs.Walk.{Walking, walk-object, walk-next, walk-limits, walk-inside, accepted-scene}
 use Rattle.face.proofs.Counts.{faces-account}
@@ -20,7 +20,7 @@ use Rattle.face.proofs.Draws.{vertices-most}
 use Rattle.shape.specs.Shapes.{facesOf, logOf}
 use Rattle.shape.proofs.Sizes.{Sized, body-sized}
 use Rattle.mesh.specs.Mesh.{Span, keptBy, pieceOf, spanOf, addPiece, meshFrom, logsOf}
-use Rattle.mesh.specs.PerBuffer.{FitCounts}
+use Rattle.mesh.specs.Contract.PerBuffer.{FitCounts}
 use Rattle.mesh.specs.Operations.{output, countsOf}
 use Rattle.mesh.proofs.MeshSizes.{output-counts}
 use Rattle.mesh.proofs.Rooms.{numbers-fit}

@@ -1,9 +1,7 @@
--- To compute with this crate's definitions, name `computes` on an `unfolding` line: it stands for all of them, and for the operations of lib.Ieee that they use. `all` stands for those of the crates below too.
-use lib.Ieee.{ofInt, toBits}
+-- To compute with this crate's definitions, name `computes` on an `unfolding` line: it stands for all of them. `all` stands for those of the crates below too.
 use Rattle.mesh.specs.Mesh.{keptBy, thinBy, accountOf, pieceOf, spanOf, addPiece, meshFrom, meshOf, accountsOf, logsOf, spanNumbers, accountNumbers, spansIn, accountsIn}
 use Rattle.mesh.specs.Operations.{noCounts, refusedWith, output, countsOf, done, measureScene, measure, tooShort, overlay, buildOutput, buildScene, build}
 use Rattle.mesh.specs.Demand3.{keptCorners, indicesIn, prefixes}
-use Rattle.mesh.specs.Samples.{bytesOf, f32Bytes, head, onePair, solidBytes, solidAtX, cornerBytes, outlineBytes, thinBytes, offsetsFrom, sceneBytes, same, objectsIn, filled, wordsOf, atAll, sameWords, sameCounts}
 use Rattle.lists.proofs.Computes.{computes as lists-computes}
 use Rattle.float.proofs.Computes.{computes as float-computes}
 use Rattle.coords.proofs.Computes.{computes as coords-computes}
@@ -17,7 +15,7 @@ use Rattle.shape.proofs.Computes.{computes as shapes-computes}
 use Rattle.validate.proofs.Computes.{computes as validation-computes}
 
 unfoldable pub computes : Unit {0}
-unfolding ofInt toBits keptBy thinBy accountOf pieceOf spanOf addPiece meshFrom meshOf accountsOf logsOf spanNumbers accountNumbers spansIn accountsIn noCounts refusedWith output countsOf done measureScene measure tooShort overlay buildOutput buildScene build keptCorners indicesIn prefixes bytesOf f32Bytes head onePair solidBytes solidAtX cornerBytes outlineBytes thinBytes offsetsFrom sceneBytes same objectsIn filled wordsOf atAll sameWords sameCounts
+unfolding keptBy thinBy accountOf pieceOf spanOf addPiece meshFrom meshOf accountsOf logsOf spanNumbers accountNumbers spansIn accountsIn noCounts refusedWith output countsOf done measureScene measure tooShort overlay buildOutput buildScene build keptCorners indicesIn prefixes
 computes = tt
 
 unfoldable pub all : Unit {0}

@@ -12,7 +12,8 @@ use Rattle.lid.specs.Log.{entryWidth}
 use Rattle.mesh.specs.Mesh.{spanWidth, accountWidth}
 use Rattle.mesh.specs.declared.Room.{Room}
 use Rattle.mesh.specs.declared.Room.the-variants.{Enough, Short}
-use Rattle.mesh.specs.PerBuffer.{Buffer, PerBuffer, each, at, Counts, numbersFor, FitCounts, Buffers}
+use Rattle.mesh.specs.PerBuffer.{Buffer, PerBuffer, each, at, Counts, Buffers}
+use Rattle.mesh.specs.Contract.PerBuffer.{numbersFor, FitCounts}
 use Rattle.mesh.specs.PerBuffer.Buffer.{vertices, normals, indices, spans, account, log}
 use Rattle.mesh.specs.Operations.{noCounts, countsOf, tooShort}
 use Rattle.mesh.specs.Demand3.{LongEnough}

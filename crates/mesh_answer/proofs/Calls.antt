@@ -11,7 +11,7 @@ use Rattle.object.specs.Object.{Object}
 use Rattle.refusal.specs.declared.Refusal.{Refusal}
 use Rattle.scene.specs.declared.scenes.Checked.the-variants.{Refused as CheckedRefused, Accepted}
 use Rattle.scene.specs.Scene.{Scene, refused, accepted, scene}
-use Rattle.scene.specs.Answers.{checkedOf, objectsOf}
+use Rattle.scene.specs.Contract.Answers.{checkedOf, objectsOf}
 use Rattle.scene.proofs.Walk.{checked-accepted, checked-refused}
 use Rattle.validate.specs.declared.Validation.{Validation}
 use Rattle.validate.specs.Validate.{validate}

@@ -8,7 +8,6 @@ use Rattle.lists.specs.Slices.{Slice}
 use Rattle.validate.specs.declared.Validation.{Validation}
 use Rattle.validate.specs.Validate.{validate}
 use Rattle.mesh_answer.specs.declared.Counted.{Counted}
-use Rattle.mesh_answer.specs.declared.Lengths.{Lengths}
 use Rattle.mesh_answer.specs.declared.Answered.{Answered}
 use Rattle.mesh_answer.specs.declared.Answered.the-variants.{Refused, Counts}
 use Rattle.mesh_answer.specs.declared.Answer.{Answer as CAnswer}
@@ -18,9 +17,6 @@ use Rattle.mesh.specs.Operations.{Answer, Built, refusedWith, build}
 
 abbrev pub countsFrom : Counted → Numbers
 countsFrom c = record { vertices = c .vertices; normals = c .normals; indices = c .indices; spans = c .spans; account = c .account; log = c .log }
-
-abbrev pub lengthsFrom : Lengths → Numbers
-lengthsFrom c = record { vertices = c .vertices; normals = c .normals; indices = c .indices; spans = c .spans; account = c .account; log = c .log }
 
 -- the answer that C gets
 abbrev pub answerFrom : CAnswer → Answer

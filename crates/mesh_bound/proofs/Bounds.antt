@@ -27,7 +27,7 @@ use Rattle.mesh_bound.specs.declared.Group.{Group}
 use Rattle.mesh_bound.specs.declared.Group.the-variants.{Lids, Others}
 use Rattle.mesh_bound.specs.declared.Counting.{Counting}
 use Rattle.mesh_bound.specs.declared.Counting.the-variants.{Exact, Highest}
-use Rattle.mesh_bound.specs.Most.{ofShape, solidMost, outlineMost, sweepMost, mostOf, exactOf, nothing as none, together, inGroup, countedBy, boundIn, boundOfAll, numbersOf, mostCounts}
+use Rattle.mesh_bound.specs.Contract.Most.{ofShape, solidMost, outlineMost, sweepMost, mostOf, exactOf, nothing as none, together, inGroup, countedBy, boundIn, boundOfAll, numbersOf, mostCounts}
 use Rattle.mesh_bound.proofs.Exact.{exact-counts}
 
 pub record AtMost (a b : Most) : Type 0 where

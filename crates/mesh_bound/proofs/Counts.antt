@@ -7,7 +7,7 @@ use lib.Ieee.{Float}
 use Rattle.object.specs.Object.{Object}
 use Rattle.scene.specs.declared.scenes.Checked.the-variants.{Accepted}
 use Rattle.scene.specs.Scene.{Scene, accepted, scene}
-use Rattle.scene.specs.Answers.{checkedOf, objectsOf}
+use Rattle.scene.specs.Contract.Answers.{checkedOf, objectsOf}
 use Rattle.scene.proofs.Walk.{checked-accepted}
 use Rattle.mesh.specs.Operations.{output, countsOf}
 use Rattle.mesh_bound.specs.declared.Most.{Most}
@@ -15,7 +15,7 @@ use Rattle.mesh_bound.specs.declared.Group.{Group}
 use Rattle.mesh_bound.specs.declared.Group.the-variants.{Lids, Others}
 use Rattle.mesh_bound.specs.declared.Counting.{Counting}
 use Rattle.mesh_bound.specs.declared.Counting.the-variants.{Exact}
-use Rattle.mesh_bound.specs.Most.{together, boundOfAll, numbersOf, mostCounts}
+use Rattle.mesh_bound.specs.Contract.Most.{together, boundOfAll, numbersOf, mostCounts}
 use Rattle.mesh_bound.proofs.Exact.{exact-counts}
 
 module _ (limit : Float) (s : List ℕ) where

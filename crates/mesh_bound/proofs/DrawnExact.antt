@@ -7,14 +7,14 @@ use lib.Ieee.{Float}
 use Rattle.object.specs.Object.{Shape}
 use Rattle.face.specs.declared.Tally.{Tally}
 use Rattle.face.specs.Faces.{Face}
-use Rattle.face.specs.Drawing.{tally, counted}
+use Rattle.face.specs.Contract.Drawing.{tally, counted}
 use Rattle.face.proofs.Draws.{drew-tally}
 use Rattle.shape.specs.declared.Drawn.{Drawn}
-use Rattle.shape.specs.Drawn.{DrewObject}
-use Rattle.shape.specs.Stages.{lastOf}
+use Rattle.shape.specs.Contract.Drawn.{DrewObject}
+use Rattle.shape.specs.Contract.Stages.{lastOf}
 use Rattle.shape.proofs.Stages.{stages-faces}
 use Rattle.mesh.specs.Mesh.{keptBy}
-use Rattle.mesh_bound.specs.Most.{ofShape, exactOf}
+use Rattle.mesh_bound.specs.Contract.Most.{ofShape, exactOf}
 
 pub drawn-exact : {limit : Float} {sh : Shape} {vs ns vs′ ns′ : List Float} {is ls is′ ls′ : List ℕ} {d : Drawn}
     → DrewObject limit sh 0 vs ns is ls d vs′ ns′ is′ ls′ → ofShape (lastOf (d .after) .vertices) (lastOf (d .after) .kept) (d .entries) ≡ exactOf limit sh

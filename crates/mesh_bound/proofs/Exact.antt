@@ -20,7 +20,7 @@ use Rattle.mesh.proofs.MeshSizes.{output-counts}
 use Rattle.mesh_bound.specs.declared.Most.{Most}
 use Rattle.mesh_bound.specs.declared.Group.the-variants.{Lids, Others}
 use Rattle.mesh_bound.specs.declared.Counting.the-variants.{Exact}
-use Rattle.mesh_bound.specs.Most.{exactOf, hasLid, nothing as none, together, inGroup, countedBy, boundIn, boundOfAll, numbersOf, mostCounts}
+use Rattle.mesh_bound.specs.Contract.Most.{exactOf, hasLid, nothing as none, together, inGroup, countedBy, boundIn, boundOfAll, numbersOf, mostCounts}
 
 pub together-none : (m : Most) → together m none ≡ m
 together-none m = λ i. record { vertices = add-zero (m .vertices) i; triangles = add-zero (m .triangles) i; spans = add-zero (m .spans) i; entries = add-zero (m .entries) i }

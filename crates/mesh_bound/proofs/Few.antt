@@ -4,9 +4,9 @@ use native.Mathlib.Nat.{le-trans}
 use native.Mathlib.Omega.{arith}
 use Rattle.mesh_bound.specs.declared.Most.{Most}
 use Rattle.scene_field.specs.Layout.{mostBytes, mostObjects}
-use Rattle.mesh.specs.PerBuffer.{FitCounts}
+use Rattle.mesh.specs.Contract.PerBuffer.{FitCounts}
 use Rattle.mesh.proofs.Rooms.{numbers-fit}
-use Rattle.mesh_bound.specs.Most.{together, numbersOf, Few}
+use Rattle.mesh_bound.specs.Contract.Most.{together, numbersOf, Few}
 use Rattle.mesh_bound.proofs.Bounds.{AtMost}
 
 pub few-less : {a b : Most} {bytes n : ℕ} → AtMost a b → Few b bytes n → Few a bytes n

@@ -13,7 +13,7 @@ use Rattle.object.specs.declared.Extent.the-variants.{Box, Cylinder, Unsized}
 use Rattle.scene_field.specs.Fields.{countsAt, holesAt}
 use Rattle.scene.specs.declared.headers.Body.{Body}
 use Rattle.scene.specs.declared.headers.Body.the-variants.{Solid, Outline, Sweep}
-use Rattle.scene.specs.Headers.{bodySize, shapeOf, CornersCounted, Limits}
+use Rattle.scene.specs.Contract.Headers.{bodySize, shapeOf, CornersCounted, Limits}
 use Rattle.scene.proofs.Parts.{corners-length, holes-size, holes-length, counts-length, sections-length}
 use Rattle.lid.proofs.Facts.{total}
 use Rattle.shape.proofs.Sizes.{sum-lengths}
@@ -21,7 +21,7 @@ use Rattle.mesh_bound.specs.declared.Most.{Most}
 use Rattle.mesh_bound.specs.declared.Group.{Group}
 use Rattle.mesh_bound.specs.declared.Counting.{Counting}
 use Rattle.mesh_bound.specs.declared.Counting.the-variants.{Exact, Highest}
-use Rattle.mesh_bound.specs.Most.{ofShape, solidMost, outlineMost, sweepMost, mostOf, inGroup, countedBy, boundIn, Few}
+use Rattle.mesh_bound.specs.Contract.Most.{ofShape, solidMost, outlineMost, sweepMost, mostOf, inGroup, countedBy, boundIn, Few}
 use Rattle.mesh_bound.proofs.Bounds.{most-within}
 use Rattle.mesh_bound.proofs.Few.{few-among, few-less}
 

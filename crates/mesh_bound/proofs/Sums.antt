@@ -10,14 +10,14 @@ use Rattle.object.specs.Object.{Object}
 use Rattle.scene.specs.declared.headers.Header.{Header}
 use Rattle.scene.specs.declared.scenes.Checked.the-variants.{Accepted}
 use Rattle.scene.specs.Scene.{Scene, accepted, scene, trailer}
-use Rattle.scene.specs.Answers.{checkedOf, objectsOf}
-use Rattle.scene.specs.Headers.{bodyAt, headerAt, shapeOf}
+use Rattle.scene.specs.Contract.Answers.{checkedOf, objectsOf}
+use Rattle.scene.specs.Contract.Headers.{bodyAt, headerAt, shapeOf}
 use Rattle.scene.proofs.Walk.{Walking, walk-object, walk-next, walk-limits, walk-body, walk-inside, AcceptedAs, checked-accepted, trailer-inside}
-use Rattle.shape.specs.Drawn.{CanDraw}
+use Rattle.shape.specs.Contract.Drawn.{CanDraw}
 use Rattle.mesh_bound.specs.declared.Most.{Most}
 use Rattle.mesh_bound.specs.declared.Group.{Group}
 use Rattle.mesh_bound.specs.declared.Counting.{Counting}
-use Rattle.mesh_bound.specs.Most.{nothing, together, boundIn, boundOfAll, Few}
+use Rattle.mesh_bound.specs.Contract.Most.{nothing, together, boundIn, boundOfAll, Few}
 use Rattle.mesh_bound.proofs.Exact.{together-none, none-together}
 use Rattle.mesh_bound.proofs.Few.{few-among, few-together}
 use Rattle.mesh_bound.proofs.Headers.{few-bound}

@@ -8,7 +8,7 @@ ghost use Prim.Native.Nat.{_+_, _-_, _≤_};
 ghost use lib.Ieee.{lt};
 ghost use Rattle.float.specs.Number.{zerof};
 ghost use Rattle.scene_field.specs.Layout.{mostHoles, mostCorners, mostSections};
-ghost use Rattle.mesh_bound.specs.Most.{ofShape, solidMost, outlineMost, sweepMost, together, Few};
+ghost use Rattle.mesh_bound.specs.Contract.Most.{ofShape, solidMost, outlineMost, sweepMost, together, Few};
 use object::Extent;
 
 // The most vertices, triangles, spans and log entries.

@@ -10,16 +10,17 @@ use Rattle.object.specs.Object.{Object}
 use Rattle.refusal.specs.declared.Refusal.{Refusal}
 use Rattle.scene.specs.declared.scenes.Checked.the-variants.{Refused as CheckedRefused, Accepted}
 use Rattle.scene.specs.Scene.{accepted, scene}
-use Rattle.scene.specs.Answers.{checkedOf}
+use Rattle.scene.specs.Contract.Answers.{checkedOf}
 use Rattle.mesh_answer.specs.declared.Counted.{Counted}
 use Rattle.mesh_answer.specs.declared.Answered.the-variants.{Counts as CountsAre}
 use Rattle.mesh.specs.declared.Room.the-variants.{Enough, Short}
-use Rattle.mesh.specs.PerBuffer.{each, at, Counts, Buffers, FitCounts}
+use Rattle.mesh.specs.PerBuffer.{each, at, Counts, Buffers}
+use Rattle.mesh.specs.Contract.PerBuffer.{FitCounts}
 use Rattle.mesh.specs.Operations.{output, countsOf, done, tooShort, overlay, refusedBuild, buildOutput, buildScene}
 use Rattle.mesh_answer.specs.Answers.{countsFrom, builtWith}
 use Rattle.mesh_answer.proofs.Calls.{build-refused, build-accepted}
-use Rattle.mesh_progress.specs.Pass.{beginning, CanAddAll}
-use Rattle.mesh_progress.specs.Wrote.{stored, WroteAll}
+use Rattle.mesh_progress.specs.Contract.Pass.{beginning, CanAddAll}
+use Rattle.mesh_progress.specs.Contract.Wrote.{stored, WroteAll}
 use Rattle.mesh_progress.proofs.Pass.Objects.{counts-fit}
 use Rattle.mesh_progress.proofs.Pass.Tails.{sets-over}
 use Rattle.mesh.specs.Demand3.{LongEnough}
@@ -28,12 +29,12 @@ use Rattle.mesh_bound.specs.declared.Most.{Most}
 use Rattle.mesh_bound.specs.declared.Group.the-variants.{Lids, Others}
 use Rattle.mesh_bound.specs.declared.Counting.{Counting}
 use Rattle.mesh_bound.specs.declared.Counting.the-variants.{Exact}
-use Rattle.mesh_bound.specs.Most.{numbersOf, together, Few}
+use Rattle.mesh_bound.specs.Contract.Most.{numbersOf, together, Few}
 use Rattle.mesh_bound.proofs.Bounds.{most-enough}
 use Rattle.mesh_bound.proofs.Counts.{SumOf, groups-counts, measured-counts}
 use Rattle.mesh_build.specs.declared.Plan.{Plan}
 use Rattle.mesh_build.specs.declared.Plan.the-variants.{Refuse, Write}
-use Rattle.mesh_build.specs.Plan.{PlanBy, PlanHolds}
+use Rattle.mesh_build.specs.Contract.Plan.{PlanBy, PlanHolds}
 
 pub stored-over : (w b : Buffers) → LongEnough (countsOf b) (countsOf w) → stored w b ≡ overlay w b
 unfolding stored overlay

@@ -3,9 +3,9 @@
 ghost use mathlib.Core.Path.{_≡_};
 ghost use Rattle.scene.specs.declared.scenes.Checked.the-variants.{Accepted};
 ghost use Rattle.scene.specs.Scene.{scene};
-ghost use Rattle.scene.specs.Answers.{checkedOf};
-ghost use Rattle.mesh_progress.specs.Pass.{drawnEntering, drawnLeaving, beginning, CanAdd, AddedObject, CanAddAll, AddedScene};
-ghost use Rattle.mesh_progress.specs.Wrote.{WroteScene};
+ghost use Rattle.scene.specs.Contract.Answers.{checkedOf};
+ghost use Rattle.mesh_progress.specs.Contract.Pass.{drawnEntering, drawnLeaving, beginning, CanAdd, AddedObject, CanAddAll, AddedScene};
+ghost use Rattle.mesh_progress.specs.Contract.Wrote.{WroteScene};
 use mesh_answer::Counted;
 use mesh_progress::BEGINNING;
 use mesh_progress::Progress;

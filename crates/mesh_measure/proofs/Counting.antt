@@ -8,7 +8,7 @@ use Rattle.object.specs.Object.{Object}
 use Rattle.refusal.specs.declared.Refusal.{Refusal}
 use Rattle.scene.specs.declared.scenes.Checked.the-variants.{Refused as CheckedRefused, Accepted}
 use Rattle.scene.specs.Scene.{Scene, refused, accepted, scene}
-use Rattle.scene.specs.Answers.{checkedOf, objectsOf}
+use Rattle.scene.specs.Contract.Answers.{checkedOf, objectsOf}
 use Rattle.scene.proofs.Walk.{checked-accepted, checked-refused}
 use Rattle.mesh.specs.Operations.{Answer, refusedWith, done, measureScene, measure}
 use Rattle.mesh_answer.specs.declared.Counted.{Counted}
@@ -16,7 +16,7 @@ use Rattle.mesh_answer.specs.Answers.{countsFrom, accepts}
 use Rattle.mesh_bound.specs.declared.Counting.{Counting}
 use Rattle.mesh_bound.specs.declared.Counting.the-variants.{Exact}
 use Rattle.mesh_bound.proofs.Exact.{exact-counts}
-use Rattle.mesh_measure.specs.Bounds.{boundOf, boundScene}
+use Rattle.mesh_measure.specs.Contract.Bounds.{boundOf, boundScene}
 
 module _ (limit : Float) (s : List ℕ) (counting : Counting) where
   pub bound-refused : (f : Refusal) (object : ℕ) → CheckedRefused f object ≡ checkedOf (scene s) → refusedWith f object ≡ boundScene counting limit (scene s)

@@ -6,7 +6,7 @@ ghost use mathlib.Core.Path.{_≡_};
 ghost use Rattle.scene.specs.Scene.{scene};
 ghost use Rattle.mesh.specs.Operations.{measure};
 ghost use Rattle.mesh_answer.specs.Answers.{answerOf};
-ghost use Rattle.mesh_measure.specs.Bounds.{boundScene};
+ghost use Rattle.mesh_measure.specs.Contract.Bounds.{boundScene};
 use crate::room::bound_counts;
 use float::MIN_AREA;
 use mesh_answer::Answered;

@@ -3,7 +3,7 @@ ghost use mathlib.Core.Path.{_≡_};
 ghost use Prim.Native.Nat.{_+_, _*_, _<_, _^_};
 ghost use lib.Seq.{sets};
 ghost use Rattle.mesh.specs.Mesh.{spanWidth, accountWidth, spanNumbers};
-ghost use Rattle.mesh_progress.specs.Pass.{spanBy, cameTo, accountBy};
+ghost use Rattle.mesh_progress.specs.Contract.Pass.{spanBy, cameTo, accountBy};
 use crate::Progress;
 use buffer::numbers::put_four;
 use buffer::numbers::put_number;

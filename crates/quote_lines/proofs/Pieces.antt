@@ -9,7 +9,7 @@ use lib.Dec.{lit≤}
 use lib.ListN.{length, getD, set, drop, length-append, drop-of-length-le}
 use lib.Seq.{drop-cons}
 use Rattle.decimal.specs.Decimals.{decimal}
-use Rattle.decimal.specs.Texts.{HasRoom, Wrote}
+use Rattle.decimal.specs.Contract.Texts.{HasRoom, Wrote}
 use Rattle.decimal.proofs.Digits.{size-most}
 use Rattle.decimal.proofs.Texts.{wrote-byte, then, same-length, Writing, writing-start, writing-next, writing-end}
 

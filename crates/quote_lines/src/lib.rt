@@ -5,7 +5,7 @@ ghost use mathlib.Core.List.{_++_};
 ghost use Prim.Native.Nat.{_+_, _≤_};
 ghost use lib.ListN.{length};
 ghost use Rattle.decimal.specs.Decimals.{decimal};
-ghost use Rattle.decimal.specs.Texts.{HasRoom, Wrote};
+ghost use Rattle.decimal.specs.Contract.Texts.{HasRoom, Wrote};
 ghost use Rattle.quote_lines.specs.Lines.{refusedLine, accountLine, countsLine, isOk, verdictLine};
 use decimal::put_decimal;
 use validate::Validation;

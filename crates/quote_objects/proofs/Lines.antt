@@ -11,15 +11,15 @@ use Rattle.float.specs.Number.{minArea}
 use Rattle.object.specs.Object.{Object}
 use Rattle.scene.specs.declared.headers.Header.{Header}
 use Rattle.scene.specs.Scene.{scene, trailer}
-use Rattle.scene.specs.Answers.{objectsOf}
-use Rattle.scene.specs.Headers.{headerAt, objectOf}
+use Rattle.scene.specs.Contract.Answers.{objectsOf}
+use Rattle.scene.specs.Contract.Headers.{headerAt, objectOf}
 use Rattle.scene.proofs.Walk.{Walking, walk-object, walk-next, walk-body, walk-inside, AcceptedAs, accepted-scene, trailer-inside}
 use Rattle.mesh.specs.Mesh.{accountOf, accountsOf, accountRecord, accountNumbers}
-use Rattle.decimal.specs.Texts.{Wrote}
+use Rattle.decimal.specs.Contract.Texts.{Wrote}
 use Rattle.decimal.proofs.Texts.{Writing, writing-start, writing-next, writing-end, wrote-as}
 use Rattle.quote_lines.specs.Lines.{accountLine}
 use Rattle.quote_text.specs.Quote.{objectLine}
-use Rattle.quote_objects.specs.Accounts.{Accounts, Priced}
+use Rattle.quote_objects.specs.Contract.Accounts.{Accounts, Priced}
 
 -- k lines are written, and the next record is at place `at`
 pub record Lines (s account : List ℕ) (n : ℕ) (old text : List ℕ) (next at k : ℕ) : Type 0 where

@@ -1,1 +1,1 @@
-pub mod Accounts
+pub mod Contract

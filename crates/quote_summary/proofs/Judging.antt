@@ -20,12 +20,12 @@ use Rattle.mesh.proofs.Rooms.{long-enough}
 use Rattle.mesh.proofs.MeshSizes.{output-counts}
 use Rattle.mesh_answer.specs.declared.Answer.{Answer as CAnswer}
 use Rattle.mesh_answer.specs.Answers.{builtWith, answerFrom, BuiltAndJudged, judged, buildAndValidate}
-use Rattle.quote_text.specs.Room.{objectsMost, roomFor}
+use Rattle.quote_text.specs.Contract.Room.{objectsMost, roomFor}
 use Rattle.quote_text.proofs.Enough.{enough}
 use Rattle.quote_lines.specs.Lines.{isOk}
 use Rattle.quote_text.specs.Quote.{validation}
 use Rattle.quote_summary.specs.declared.Summary.{Summary}
-use Rattle.quote_summary.specs.Summaries.{summaryOf, SummedUp, Summed}
+use Rattle.quote_summary.specs.Contract.Summaries.{summaryOf, SummedUp, Summed}
 
 -- what Build leaves where no buffer is too short
 abbrev whole : Scene → Buffers → Built

@@ -1,1 +1,1 @@
-pub mod Summaries
+pub mod Contract

@@ -4,7 +4,7 @@ ghost use mathlib.Core.Path.{_≡_};
 ghost use Prim.Native.Nat.{_≤_};
 ghost use lib.ListN.{length};
 ghost use Rattle.mesh_answer.specs.Answers.{answerFrom};
-ghost use Rattle.quote_summary.specs.Summaries.{summaryOf, Summed};
+ghost use Rattle.quote_summary.specs.Contract.Summaries.{summaryOf, Summed};
 use mesh::ACCOUNT_WIDTH;
 use mesh::SPAN_WIDTH;
 use mesh_answer::Answer;

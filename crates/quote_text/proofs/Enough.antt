@@ -12,7 +12,7 @@ use Rattle.mesh.specs.Demand3.{LongEnough}
 use Rattle.mesh.proofs.Comes.{scene-comes}
 use Rattle.mesh.proofs.MeshSizes.{output-counts}
 use Rattle.mesh.proofs.Rooms.{numbers-within, none-needed}
-use Rattle.quote_text.specs.Room.{objectsMost, roomFor}
+use Rattle.quote_text.specs.Contract.Room.{objectsMost, roomFor}
 
 pub few-objects : (s : List ℕ) (os : List Object) (bytes : ℕ) → scene s ≡ accepted os → length s ≤ bytes → length os ≤ objectsMost bytes
 unfolding objectsMost

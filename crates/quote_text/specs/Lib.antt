@@ -1,2 +1,2 @@
 pub mod Quote
-pub mod Room
+pub mod Contract

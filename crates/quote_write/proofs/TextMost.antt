@@ -20,7 +20,7 @@ use Rattle.refusal.specs.declared.Refusal.{Refusal}
 use Rattle.refusal.specs.Rows.{numberOf}
 use Rattle.refusal.proofs.Numbers.{number-range}
 use Rattle.scene.specs.Scene.{Scene, refused, accepted, scene, trailer, countAt}
-use Rattle.scene.specs.Headers.{headerAt, objectOf}
+use Rattle.scene.specs.Contract.Headers.{headerAt, objectOf}
 use Rattle.scene.proofs.Walk.{Walking, walk-object, walk-next, walk-inside, accepted-scene, trailer-inside}
 use Rattle.shape.specs.Price.{offered}
 use Rattle.shape.proofs.Prices.{offered-count}
@@ -28,7 +28,7 @@ use Rattle.mesh.specs.Mesh.{keptBy, thinBy, accountOf, meshFrom, meshOf}
 use Rattle.mesh.proofs.Demand3.Accounts.{price-is-kept-and-thin}
 use Rattle.mesh.proofs.MeshSizes.{mesh-indices}
 use Rattle.decimal.specs.Decimals.{decimal}
-use Rattle.quote_text.specs.Room.{objectsMost}
+use Rattle.quote_text.specs.Contract.Room.{objectsMost}
 use Rattle.mesh.proofs.Comes.{sized-here, scene-comes}
 use Rattle.quote_text.proofs.Enough.{few-objects}
 use Rattle.quote_lines.specs.Words.{ascii, field}

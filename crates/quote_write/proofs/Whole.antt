@@ -14,18 +14,18 @@ use Rattle.float.specs.Number.{minArea}
 use Rattle.object.specs.Object.{Object}
 use Rattle.refusal.proofs.Numbers.{number-range}
 use Rattle.scene.specs.Scene.{Scene, refused, accepted, scene}
-use Rattle.scene.specs.Answers.{objectsOf}
+use Rattle.scene.specs.Contract.Answers.{objectsOf}
 use Rattle.mesh.specs.Mesh.{Mesh, meshOf}
 use Rattle.mesh.specs.Operations.{refusedWith, done, measureScene, measure}
-use Rattle.decimal.specs.Texts.{Wrote}
+use Rattle.decimal.specs.Contract.Texts.{Wrote}
 use Rattle.decimal.proofs.Texts.{then, wrote-as}
-use Rattle.quote_text.specs.Room.{objectsMost}
+use Rattle.quote_text.specs.Contract.Room.{objectsMost}
 use Rattle.quote_text.proofs.Enough.{few-objects}
 use Rattle.quote_lines.specs.Lines.{refusedLine, countsLine, verdictLine}
 use Rattle.quote_text.specs.Quote.{objectLine, meshLine, objectsText, sceneText, quoteText}
-use Rattle.quote_objects.specs.Accounts.{Priced}
+use Rattle.quote_objects.specs.Contract.Accounts.{Priced}
 use Rattle.quote_summary.specs.declared.Summary.{Summary}
-use Rattle.quote_summary.specs.Summaries.{SummedUp, Summed}
+use Rattle.quote_summary.specs.Contract.Summaries.{SummedUp, Summed}
 
 -- ---- refused or accepted, by Measure's number
 

@@ -18,7 +18,7 @@ use Rattle.scene.specs.declared.headers.Body.the-variants.{Solid, Outlin
 use Rattle.scene_field.specs.Layout.{mostHoles, mostCorners, mostSections, cornerBytes, sectionBytes, positionBytes, orientationBytes, sizesFrom}
 use Rattle.scene_field.specs.Fields.{u16At, u32At, boxAt, cylinderAt, countsAt, all32}
 use Rattle.scene.specs.Scene.{Record, bad, good, rest, solidAt, outlineCorners, outlineOf, outlineAt, sweepAt, kindAt, recordAt}
-use Rattle.scene.specs.Headers.{solidFrom, cornerCount, outlineFrom, volumeSize, bodySize, bodyAt, shapeOf, objectOf, headerAt, Limits}
+use Rattle.scene.specs.Contract.Headers.{solidFrom, cornerCount, outlineFrom, volumeSize, bodySize, bodyAt, shapeOf, objectOf, headerAt, Limits}
 
 -- what holds on both sides of a test that is made twice holds of its outcomes
 both : {A B : Type 0} (P : A → B → Type 0) (t : Bool) {x y : A} {r q : B} → P x r → P y q → P (cond t x y) (cond t r q)

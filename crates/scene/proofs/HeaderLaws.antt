@@ -9,7 +9,7 @@ use borrow.Author.Tests.{ne-eqb}
 use Rattle.scene.specs.declared.headers.SolidAt.{SolidAt}
 use Rattle.scene.specs.declared.headers.Body.the-variants.{Solid, Sweep}
 use Rattle.scene_field.specs.Fields.{u16At}
-use Rattle.scene.specs.Headers.{bodyAt, bodySize, Limits, SolidIn}
+use Rattle.scene.specs.Contract.Headers.{bodyAt, bodySize, Limits, SolidIn}
 
 pub body-other : (s : List ℕ) (i kind : ℕ) → (kind ≡ 0 → ⊥) → (kind ≡ 1 → ⊥) → (kind ≡ 2 → ⊥) → (kind ≡ 3 → ⊥) → (kind ≡ 4 → ⊥) → (kind ≡ 5 → ⊥) → Sweep true (u16At s i) ≡ bodyAt s i kind
 unfolding bodyAt

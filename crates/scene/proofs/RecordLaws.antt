@@ -16,7 +16,7 @@ use Rattle.scene_field.specs.Layout.{mostHoles, mostCorners, mostSections, posi
 use Rattle.scene_field.specs.Fields.{u16At, u32At, countsAt}
 use Rattle.scene.specs.Scene.{Record, bad, rest, solidAt, outlineCorners, outlineOf, outlineAt, sweepAt, kindAt, recordAt}
 use Rattle.scene.specs.declared.records.RecordEnd.{RecordEnd}
-use Rattle.scene.specs.Answers.{endOf}
+use Rattle.scene.specs.Contract.Answers.{endOf}
 use Rattle.scene_field.proofs.Fields.{u16-past}
 
 -- ---- n bytes from place i on, before e

@@ -16,7 +16,7 @@ use Rattle.scene.specs.declared.scenes.Checked.the-variants.{Refused, Ac
 use Rattle.scene_field.specs.Layout.{mostBytes, mostObjects}
 use Rattle.scene_field.specs.Fields.{u32At}
 use Rattle.scene.specs.Scene.{Record, bad, good, recordAt, Scene, refused, accepted, prepend, recordThen, recordsFrom, trailer, countAt, scene}
-use Rattle.scene.specs.Answers.{endOf, checkedOf}
+use Rattle.scene.specs.Contract.Answers.{endOf, checkedOf}
 
 -- k objects more
 abbrev pub plus : ℕ → Checked → Checked

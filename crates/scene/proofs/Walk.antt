@@ -19,8 +19,8 @@ use Rattle.scene.specs.declared.scenes.Checked.the-variants.{Refused, Ac
 use Rattle.scene_field.specs.Layout.{mostBytes, mostObjects}
 use Rattle.scene_field.specs.Fields.{u32At}
 use Rattle.scene.specs.Scene.{Record, bad, good, recordAt, Scene, refused, accepted, prepend, recordThen, recordsFrom, trailer, countAt, scene}
-use Rattle.scene.specs.Answers.{checkedOf, objectsOf}
-use Rattle.scene.specs.Headers.{bodyAt, bodySize, objectOf, headerAt, Limits}
+use Rattle.scene.specs.Contract.Answers.{checkedOf, objectsOf}
+use Rattle.scene.specs.Contract.Headers.{bodyAt, bodySize, objectOf, headerAt, Limits}
 use Rattle.scene.proofs.Described.{Read, read}
 use Rattle.scene.proofs.SceneLaws.{one-less}
 

@@ -1,3 +1,2 @@
 pub mod Scene
-pub mod Answers
-pub mod Headers
+pub mod Contract

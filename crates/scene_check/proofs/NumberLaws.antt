@@ -14,7 +14,7 @@ use Rattle.scene_field.specs.Fields.{u16At, pointAt, orientationAt, cornersAt, 
 use Rattle.refusal.specs.declared.Refusal.the-variants.{Past, Numbers}
 use Rattle.scene.specs.declared.records.RecordEnd.{RecordEnd}
 use Rattle.scene.specs.Scene.{bad, good, rest, solidAt, outlineCorners, sweepAt}
-use Rattle.scene.specs.Answers.{endOf}
+use Rattle.scene.specs.Contract.Answers.{endOf}
 
 module _ (e i n : ℕ) (allowed : Bool) (o : Object) where
   pub rest-past : e - i < n → bad Past ≡ rest e i n allowed o

@@ -7,7 +7,7 @@ ghost use Prim.Native.Nat.{_+_, _*_, _≤_};
 ghost use lib.ListN.{length};
 ghost use Rattle.scene_field.specs.Layout.{mostObjects};
 ghost use Rattle.scene.specs.Scene.{scene, recordsFrom};
-ghost use Rattle.scene.specs.Answers.{checkedOf};
+ghost use Rattle.scene.specs.Contract.Answers.{checkedOf};
 use crate::record::check_record;
 use refusal::Refusal;
 use scene::layout::MOST_BYTES;

@@ -11,7 +11,7 @@ ghost use Rattle.object.specs.Object.{Shape, Object};
 ghost use Rattle.scene_field.specs.Layout.{mostHoles};
 ghost use Rattle.scene_field.specs.Fields.{all32};
 ghost use Rattle.scene.specs.Scene.{rest, solidAt, outlineOf, outlineAt, sweepAt, kindAt, recordAt};
-ghost use Rattle.scene.specs.Answers.{endOf};
+ghost use Rattle.scene.specs.Contract.Answers.{endOf};
 use object::MOST_CORNERS;
 use object::MOST_HOLES;
 use refusal::Refusal;

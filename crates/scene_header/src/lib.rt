@@ -8,7 +8,7 @@ ghost use Prim.Native.Nat.{_+_, _≤_, _<_, _^_};
 ghost use lib.ListN.{length};
 ghost use Rattle.scene_field.specs.Fields.{u16At, boxAt, cylinderAt};
 ghost use Rattle.scene.specs.declared.headers.Body.the-variants.{Solid, Sweep};
-ghost use Rattle.scene.specs.Headers.{solidFrom, outlineFrom, volumeSize, headerOf, headerAt};
+ghost use Rattle.scene.specs.Contract.Headers.{solidFrom, outlineFrom, volumeSize, headerOf, headerAt};
 use crate::hole_counts::sum_counts;
 use object::Extent;
 use scene::headers::Body;

@@ -18,7 +18,8 @@ use Rattle.object.specs.declared.Extent.the-variants.{Box, Cylinder, Unsized}
 use Rattle.object.specs.declared.Section.{Section}
 use Rattle.object.specs.declared.Orientation.{Orientation}
 use Rattle.object.specs.Object.{Shape, solid, outline, sweep, roundSweep, frame}
-use Rattle.face.specs.Faces.{TriangleLow, FaceLow, Triangle, Face}
+use Rattle.face.specs.Faces.{Triangle, Face}
+use Rattle.face.specs.Contract.Faces.{TriangleLow, FaceLow}
 use Rattle.lid_plane.specs.Plane.{topsOf, basesOf, lidNormal, about}
 use Rattle.shape.specs.Shapes.{Axis, alongX, alongY, alongZ, boxFace, boxSides, box, cylinderSide, endFace, cylinderFaces, cylinder, ringAt, ringPoint, solidFaces, wall, walls, outerWalls, holeWalls, allCorners, flatOf, outlineLid, hasHeight, lidFaces, outlineFaces, isWidthlessSection, isFlatSection, pairFaces, pairs, cap, sweepCaps, sweepFaces, Ellipse, ellipse0, ellipse, tubeSide, tubeFaces, tubeCaps, roundSweepFaces, facesOf}
 use Rattle.lists.proofs.Lists.{length-list, each-append, each-list, each-join, each-map, each-at, each-any}

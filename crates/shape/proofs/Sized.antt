@@ -10,7 +10,7 @@ use Rattle.lists.specs.Loops.{list, sumOf}
 use Rattle.lists.proofs.Lists.{sum-append, sum-list}
 use Rattle.lists.proofs.Loops.{either}
 use Rattle.face.specs.Faces.{Face}
-use Rattle.face.specs.Drawing.{Drawing, Drew, Countable}
+use Rattle.face.specs.Contract.Drawing.{Drawing, Drew, Countable}
 use Rattle.face.proofs.Counts.{count}
 use Rattle.face.proofs.Draws.{drew-countable}
 

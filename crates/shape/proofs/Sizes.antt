@@ -24,10 +24,10 @@ use Rattle.object.specs.Object.{Shape, solid, outline, sweep, roundSweep, frame
 use Rattle.scene.specs.declared.headers.Body.{Body}
 use Rattle.scene.specs.declared.headers.Body.the-variants.{Solid, Outline, Sweep}
 use Rattle.scene_field.specs.Fields.{pointAt, countsAt, cornersAt, holesAt, sectionsAt}
-use Rattle.scene.specs.Headers.{bodySize, orientationOf, shapeOf, Limits}
+use Rattle.scene.specs.Contract.Headers.{bodySize, orientationOf, shapeOf, Limits}
 use Rattle.scene.proofs.Parts.{holes-length, corners-count, sections-length, counts-length}
 use Rattle.face.specs.Faces.{Triangle, Face, quad, fan}
-use Rattle.face.specs.Drawing.{tally, Countable}
+use Rattle.face.specs.Contract.Drawing.{tally, Countable}
 use Rattle.face.proofs.Counts.{count}
 use Rattle.lid_plane.specs.Plane.{topsOf, basesOf, lidNormal, about}
 use Rattle.lid.specs.Rings.{turnOf}
@@ -36,7 +36,7 @@ use Rattle.lid.specs.Lid.{oneMore, lidPrice}
 use Rattle.lid.proofs.Facts.{total, log-size, lid-triangles, lid-most}
 use Rattle.lists.proofs.Lists.{sum-append, sum-list, each-at, each-map, each-any}
 use Rattle.lists.proofs.Loops.{either}
-use Rattle.shape.specs.Drawn.{CanDraw}
+use Rattle.shape.specs.Contract.Drawn.{CanDraw}
 use Rattle.shape.specs.Price.{offered, outlinePrice, solidPrice, pairPrice, pairsPrice, capsPrice}
 use Rattle.shape.specs.Shapes.{Axis, alongX, alongY, alongZ, onAxis, boxFace, boxSides, box, cylinderSide, endFace, cylinderFaces, cylinder, ringAt, solidFaces, wall, walls, outerWalls, holeWalls, allCorners, flatOf, outlineLid, hasHeight, lidFaces, outlineFaces, isWidthlessSection, isFlatSection, pairFaces, pairs, cap, sweepCaps, sweepFaces, Ellipse, ellipse, ellipse0, tubeSide, tubeFaces, tubeCaps, roundSweepFaces, facesOf, logOf}
 use Rattle.shape.proofs.Corners.{ring-size, all-total, Sixteen, ellipse-sixteen}

@@ -21,11 +21,11 @@ use Rattle.object.specs.declared.Orientation.{Orientation}
 use Rattle.object.specs.Object.{Shape, solid, outline, sweep, roundSweep}
 use Rattle.face.specs.declared.Tally.{Tally}
 use Rattle.face.specs.Faces.{Triangle, Face, quad}
-use Rattle.face.specs.Drawing.{tally, Drawing, drawing, counted, drawn, Drew}
+use Rattle.face.specs.Contract.Drawing.{tally, Drawing, drawing, counted, drawn, Drew}
 use Rattle.face.proofs.Draws.{then, drew-none, drew-tally}
 use Rattle.lid_plane.specs.Plane.{about, lidNormal}
 use Rattle.shape.specs.Shapes.{Axis, boxFace, boxSides, box, alongX, alongY, alongZ, cylinderSide, endFace, cylinderFaces, cylinder, ringAt, solidFaces, wall, walls, outerWalls, holeWalls, allCorners, hasHeight, lidFaces, outlineFaces, isWidthlessSection, isFlatSection, pairFaces, pairs, cap, sweepCaps, sweepFaces, Ellipse, ellipse, tubeSide, tubeFaces, tubeCaps, roundSweepFaces, facesOf}
-use Rattle.shape.specs.Stages.{PartRun, talliesOf, DrewStages, stage, sideStages, boxStages, fourStages, cylinderStages, solidStages, lidFace, floorFaces, lidStages, outlineStages, sweepStages, roundStages, stagesOf}
+use Rattle.shape.specs.Contract.Stages.{PartRun, talliesOf, DrewStages, stage, sideStages, boxStages, fourStages, cylinderStages, solidStages, lidFace, floorFaces, lidStages, outlineStages, sweepStages, roundStages, stagesOf}
 
 -- ---- the faces
 

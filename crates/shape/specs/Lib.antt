@@ -1,4 +1,3 @@
 pub mod Shapes
 pub mod Price
-pub mod Drawn
-pub mod Stages
+pub mod Contract

@@ -18,14 +18,14 @@ use Rattle.coords_vector.specs.Vectors.{negate}
 use Rattle.object.specs.declared.Orientation.{Orientation}
 use Rattle.object.specs.Object.{frame}
 use Rattle.face.specs.Faces.{fan, quad}
-use Rattle.face.specs.Drawing.{tally, Drawing, Drew, Countable}
+use Rattle.face.specs.Contract.Drawing.{tally, Drawing, Drew, Countable}
 use Rattle.face.proofs.Draws.{countable-less}
 use Rattle.lists.proofs.Stores.{sets-append}
 use Rattle.face.specs.declared.Tally.{Tally}
 use Rattle.shape.specs.Shapes.{Axis, onAxis, alongX, alongY, alongZ, boxFace}
-use Rattle.shape.specs.Stages.{PartRun, sideStages, boxStages, DrewStages, lastOf}
+use Rattle.shape.specs.Contract.Stages.{PartRun, sideStages, boxStages, DrewStages, lastOf}
 use Rattle.shape_box.specs.declared.Placed.{Placed}
-use Rattle.shape_box.specs.Axes.{axisNo, depthNo, sidesNo, boxTo}
+use Rattle.shape_box.specs.Contract.Axes.{axisNo, depthNo, sidesNo, boxTo}
 use Rattle.shape.proofs.Sized.{Sized, sized-append, sized-cond, countable-left}
 use Rattle.shape.proofs.Stages.{stages-none, stages-first, stages-empty, stages-then}
 

@@ -1,2 +1,1 @@
-pub mod Axes
-pub mod Quads
+pub mod Contract

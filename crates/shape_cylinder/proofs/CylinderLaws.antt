@@ -18,10 +18,10 @@ use Rattle.angle_circle.specs.Circle.{sideAngle, sine, cosine}
 use Rattle.object.specs.declared.Orientation.{Orientation}
 use Rattle.object.specs.Object.{frame}
 use Rattle.face.specs.Faces.{fan, quad}
-use Rattle.face.specs.Drawing.{Drawing, Drew, Countable}
+use Rattle.face.specs.Contract.Drawing.{Drawing, Drew, Countable}
 use Rattle.face.specs.declared.Tally.{Tally}
 use Rattle.shape.specs.Shapes.{ringAt, cylinderSide, endFace}
-use Rattle.shape.specs.Stages.{PartRun, cylinderStages, DrewStages}
+use Rattle.shape.specs.Contract.Stages.{PartRun, cylinderStages, DrewStages}
 use Rattle.shape.proofs.Stages.{stages-none, stages-first, stages-empty}
 use Rattle.shape.proofs.Sized.{Sized, sized-list, countable-left}
 

@@ -13,11 +13,11 @@ use Rattle.coords_vector.specs.Vectors.{zeroV}
 use Rattle.object.specs.declared.Corner.{Corner}
 use Rattle.scene_field.specs.Fields.{cornersAt, countsAt, holesAt}
 use Rattle.scene.specs.declared.headers.Body.the-variants.{Outline}
-use Rattle.scene.specs.Headers.{cornerCount}
+use Rattle.scene.specs.Contract.Headers.{cornerCount}
 use Rattle.scene.proofs.Parts.{corners-length, holes-size, corners-count}
 use Rattle.face.specs.declared.Tally.{Tally}
 use Rattle.face.specs.Faces.{Face}
-use Rattle.face.specs.Drawing.{Drawing, tally, drawing, Drew, Countable}
+use Rattle.face.specs.Contract.Drawing.{Drawing, tally, drawing, Drew, Countable}
 use Rattle.face.proofs.Counts.{count}
 use Rattle.face.proofs.Draws.{drew-countable}
 use Rattle.lid_plane.specs.Plane.{lidNormal, about}
@@ -25,16 +25,16 @@ use Rattle.lid.specs.Lid.{lidPrice}
 use Rattle.lid.specs.Log.{logNumbers}
 use Rattle.lid.proofs.Facts.{total, lid-triangles}
 use Rattle.shape.specs.Shapes.{walls, outerWalls, holeWalls, allCorners, flatOf, outlineLid, hasHeight, logOf}
-use Rattle.shape.specs.Stages.{fourStages, lidFace, floorFaces, outlineStages, stagesOf, DrewStages}
+use Rattle.shape.specs.Contract.Stages.{fourStages, lidFace, floorFaces, outlineStages, stagesOf, DrewStages}
 use Rattle.shape.proofs.Stages.{stages-walls, stages-lidded}
 use Rattle.shape.specs.declared.Drawn.{Drawn}
-use Rattle.shape.specs.Drawn.{CanDraw, DrewObject}
+use Rattle.shape.specs.Contract.Drawn.{CanDraw, DrewObject}
 use Rattle.shape.specs.Price.{offered, outlinePrice}
 use Rattle.shape_outline_corners.specs.declared.OutlineAt.{OutlineAt}
-use Rattle.shape_outline_corners.specs.Outlines.{cornersPlace, outlineShape, lidAt, Placed, OutlineHolds}
+use Rattle.shape_outline_corners.specs.Contract.Outlines.{cornersPlace, outlineShape, lidAt, Placed, OutlineHolds}
 use Rattle.shape_outline_lid.specs.declared.faces.Capped.{Capped}
-use Rattle.shape_outline_lid.specs.Caps.{DrewCap}
-use Rattle.shape_outline.specs.Measures.{outlineIn, wallsIn}
+use Rattle.shape_outline_lid.specs.Contract.Caps.{DrewCap}
+use Rattle.shape_outline.specs.Contract.Measures.{outlineIn, wallsIn}
 use Rattle.shape.proofs.Sizes.{sum-lengths, outer-points, holes-points}
 use Rattle.shape.proofs.Prices.{walls-count, holes-count}
 use Rattle.shape_outline_lid.proofs.FlatLaws.{all-corners}

@@ -1,1 +1,1 @@
-pub mod Measures
+pub mod Contract

@@ -14,8 +14,8 @@ use Rattle.coords.specs.Coords.{origin}
 use Rattle.object.specs.declared.Corner.{Corner}
 use Rattle.scene_field.specs.Fields.{pointAt, cornerAt}
 use Rattle.lid_plane.specs.Plane.{areaNormalStep, areaNormal}
-use Rattle.lid_plane.specs.Steps.{areaNormalAt}
-use Rattle.shape_outline_corners.specs.Outlines.{pointsAt}
+use Rattle.lid_plane.specs.Contract.Steps.{areaNormalAt}
+use Rattle.shape_outline_corners.specs.Contract.Outlines.{pointsAt}
 use Rattle.shape_outline_corners.proofs.CornerLaws.{points-length, points-get, points-first}
 
 -- the vector area of n points

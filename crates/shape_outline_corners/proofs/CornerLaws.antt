@@ -11,7 +11,7 @@ use Rattle.coords.specs.Coords.{origin}
 use Rattle.object.specs.declared.Corner.{Corner}
 use Rattle.scene_field.specs.Fields.{pointAt, cornerAt, cornersAt}
 use Rattle.lid_plane.specs.Plane.{topsOf, basesOf}
-use Rattle.shape_outline_corners.specs.Outlines.{pointsAt}
+use Rattle.shape_outline_corners.specs.Contract.Outlines.{pointsAt}
 
 pub map-list : {A B : Type 0} (g : A → B) (f : ℕ → A) (n k : ℕ) → map g (list f n k) ≡ list (λ i. g (f i)) n k
 unfolding list

@@ -11,7 +11,7 @@ ghost use Rattle.lists.specs.Loops.{next};
 ghost use Rattle.coords.specs.Coords.{samePoint};
 ghost use Rattle.scene_field.specs.Fields.{cornerAt, cornersAt};
 ghost use Rattle.shape.specs.Shapes.{hasHeight};
-ghost use Rattle.shape_outline_corners.specs.Outlines.{CornersIn};
+ghost use Rattle.shape_outline_corners.specs.Contract.Outlines.{CornersIn};
 use coords_vector::Vector;
 use scene_field::points::corner_at;
 

@@ -3,7 +3,7 @@
 ghost use mathlib.Core.Path.{_≡_};
 ghost use Rattle.scene_field.specs.Fields.{cornersAt};
 ghost use Rattle.lid_plane.specs.Plane.{areaNormal, lidNormal, about};
-ghost use Rattle.shape_outline_corners.specs.Outlines.{pointsAt, CornersIn, PointsIn};
+ghost use Rattle.shape_outline_corners.specs.Contract.Outlines.{pointsAt, CornersIn, PointsIn};
 use crate::next_place;
 use coords_vector::Vector;
 use lid_plane::normal::area_normal_step;

@@ -14,18 +14,19 @@ use Rattle.coords.specs.declared.Point.{Point}
 use Rattle.coords_vector.specs.declared.Vector.{Vector}
 use Rattle.coords_vector.specs.Vectors.{cross}
 use Rattle.scene_field.specs.Fields.{pointAt, cornersAt, countsAt, holesAt}
-use Rattle.scene.specs.Headers.{cornerCount}
+use Rattle.scene.specs.Contract.Headers.{cornerCount}
 use Rattle.scene.proofs.Parts.{corners-length, holes-size, outline-corners}
 use Rattle.lid.specs.declared.Flat.{Flat}
 use Rattle.lid_plane.specs.Plane.{topsOf, lidNormal, firstAxis, flatten}
-use Rattle.lid.specs.Rings.{flats, flat0}
+use Rattle.lid.specs.Rings.{flat0}
+use Rattle.lid.specs.Contract.Rings.{flats}
 use Rattle.lid.specs.Lid.{Lid, lidOf}
 use Rattle.lid.specs.declared.LidCounts.{LidCounts}
-use Rattle.lid.specs.Written.{WritesLid}
-use Rattle.lid_plane.specs.Steps.{flatOn}
+use Rattle.lid.specs.Contract.Written.{WritesLid}
+use Rattle.lid_plane.specs.Contract.Steps.{flatOn}
 use Rattle.shape.specs.Shapes.{allCorners, flatOf, outlineLid}
 use Rattle.shape_outline_corners.specs.declared.OutlineAt.{OutlineAt}
-use Rattle.shape_outline_corners.specs.Outlines.{pointsAt, cornersPlace, lidAt, OutlineHolds}
+use Rattle.shape_outline_corners.specs.Contract.Outlines.{pointsAt, cornersPlace, lidAt, OutlineHolds}
 use Rattle.shape_outline_corners.proofs.CornerLaws.{map-list, tops-points}
 
 -- ---- corners laid flat

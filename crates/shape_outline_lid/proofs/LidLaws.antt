@@ -20,17 +20,18 @@ use Rattle.scene_field.specs.Fields.{cornersAt, countsAt, holesAt}
 use Rattle.scene.proofs.Parts.{holes-length, counts-length, corners-count}
 use Rattle.buffer.proofs.Vertices.{length-vertices}
 use Rattle.face.specs.declared.Tally.{Tally}
-use Rattle.face.specs.Faces.{Triangle, TriangleLow}
-use Rattle.face_triangle.specs.Triangles.{triangleAt, trianglesIn}
-use Rattle.face.specs.Drawing.{Drawing, Drew, Countable}
+use Rattle.face.specs.Faces.{Triangle}
+use Rattle.face.specs.Contract.Faces.{TriangleLow}
+use Rattle.face_triangle.specs.Contract.Triangles.{triangleAt, trianglesIn}
+use Rattle.face.specs.Contract.Drawing.{Drawing, Drew, Countable}
 use Rattle.face.proofs.Draws.{drew-countable, countable-less}
 use Rattle.face_draw.proofs.OneFace.{length-triangles}
 use Rattle.lid.specs.Lid.{lidPrice}
-use Rattle.lid.specs.Written.{triangleRecord, triangleNumbers}
+use Rattle.lid.specs.Contract.Written.{triangleRecord, triangleNumbers}
 use Rattle.lid.proofs.Facts.{lid-triangles, lid-corners}
 use Rattle.shape.specs.Shapes.{flatOf, outlineLid}
 use Rattle.shape_outline_corners.specs.declared.OutlineAt.{OutlineAt}
-use Rattle.shape_outline_corners.specs.Outlines.{faceAt, pointsAt, cornersPlace, lidAt, Placed, OutlineHolds}
+use Rattle.shape_outline_corners.specs.Contract.Outlines.{faceAt, pointsAt, cornersPlace, lidAt, Placed, OutlineHolds}
 use Rattle.shape_outline_corners.proofs.CornerLaws.{points-length}
 use Rattle.shape_outline_lid.proofs.FillLaws.{fill-front}
 use Rattle.shape.proofs.Sizes.{outline-entries, price-lid}

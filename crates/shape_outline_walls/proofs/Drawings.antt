@@ -9,7 +9,7 @@ use Rattle.lists.specs.Loops.{list}
 use Rattle.lists.proofs.Loops.{list-step}
 use Rattle.lists.proofs.Tests.{list-none}
 use Rattle.face.specs.Faces.{Face}
-use Rattle.face.specs.Drawing.{Drawing, drawn, Drew}
+use Rattle.face.specs.Contract.Drawing.{Drawing, drawn, Drew}
 use Rattle.face.proofs.Draws.{then, drew-none}
 
 module _ (limit : Float) (before : ℕ) where

@@ -15,7 +15,7 @@ use Rattle.coords_vector.specs.Vectors.{negate}
 use Rattle.scene_field.specs.Fields.{cornersAt, holesAt}
 use Rattle.scene.proofs.Parts.{corners-length}
 use Rattle.face.specs.Faces.{Face}
-use Rattle.face.specs.Drawing.{Drawing, drawn, Drew, Countable}
+use Rattle.face.specs.Contract.Drawing.{Drawing, drawn, Drew, Countable}
 use Rattle.lid_plane.specs.Plane.{about}
 use Rattle.shape.specs.Shapes.{walls, holeWalls}
 use Rattle.shape_outline_walls.proofs.WallLaws.{walls-countable}

@@ -16,13 +16,13 @@ use Rattle.object.specs.Limits.{mostCorners}
 use Rattle.scene_field.specs.Fields.{cornerAt, cornersAt}
 use Rattle.scene.proofs.Parts.{corners-get, corners-length}
 use Rattle.face.specs.Faces.{Face, quad, fan}
-use Rattle.face.specs.Drawing.{Drawing, tally, Drew, Countable}
+use Rattle.face.specs.Contract.Drawing.{Drawing, tally, Drew, Countable}
 use Rattle.face.proofs.Draws.{drew-countable}
 use Rattle.lid_plane.specs.Plane.{about}
 use Rattle.shape.specs.Shapes.{corner0, wall, walls, outerWalls}
 use Rattle.shape.proofs.Sizes.{walls-points}
 use Rattle.shape.proofs.Prices.{walls-count}
-use Rattle.shape_outline_corners.specs.Outlines.{wallBetween}
+use Rattle.shape_outline_corners.specs.Contract.Outlines.{wallBetween}
 
 -- wall k is drawn where it is drawn between corner k and the next, where they lie
 module _ (s : List ℕ) (n at : ℕ) (normal : Vector) (k : ℕ) (h : k < n) where

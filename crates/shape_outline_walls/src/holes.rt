@@ -2,9 +2,9 @@
 ghost use Prim.Native.Nat.{_+_, _*_, _≤_};
 ghost use Rattle.lists.specs.Loops.{join, sumOf};
 ghost use Rattle.scene_field.specs.Fields.{countsAt, holesAt};
-ghost use Rattle.face.specs.Drawing.{Draws, Countable};
+ghost use Rattle.face.specs.Contract.Drawing.{Draws, Countable};
 ghost use Rattle.shape.specs.Shapes.{holeWalls};
-ghost use Rattle.shape_outline_corners.specs.Outlines.{CornersIn};
+ghost use Rattle.shape_outline_corners.specs.Contract.Outlines.{CornersIn};
 use crate::walls;
 use coords_vector::Vector;
 use face::Tally;

@@ -4,9 +4,9 @@ pub mod holes;
 
 ghost use Prim.Native.Nat.{_*_, _≤_};
 ghost use Rattle.scene_field.specs.Fields.{cornersAt};
-ghost use Rattle.face.specs.Drawing.{Draws, Countable};
+ghost use Rattle.face.specs.Contract.Drawing.{Draws, Countable};
 ghost use Rattle.shape.specs.Shapes.{walls};
-ghost use Rattle.shape_outline_corners.specs.Outlines.{CornersIn};
+ghost use Rattle.shape_outline_corners.specs.Contract.Outlines.{CornersIn};
 use coords_vector::Vector;
 use face::Tally;
 use scene_field::points::corner_at;

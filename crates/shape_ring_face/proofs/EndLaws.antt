@@ -12,9 +12,10 @@ use Rattle.coords_vector.specs.declared.Vector.{Vector}
 use Rattle.coords.specs.Buffers.{vertexNumbers, verticesIn}
 use Rattle.coords.proofs.Buffers.{vertices-size, vertices-back}
 use Rattle.face.specs.declared.Tally.{Tally}
-use Rattle.face.specs.Faces.{TriangleLow, fan}
-use Rattle.face_triangle.specs.Triangles.{trianglesIn}
-use Rattle.face.specs.Drawing.{Drawing, Drew, Countable, faceIn}
+use Rattle.face.specs.Faces.{fan}
+use Rattle.face.specs.Contract.Faces.{TriangleLow}
+use Rattle.face_triangle.specs.Contract.Triangles.{trianglesIn}
+use Rattle.face.specs.Contract.Drawing.{Drawing, Drew, Countable, faceIn}
 use Rattle.face.proofs.Corners.{fan-low}
 use Rattle.shape.specs.Shapes.{endFace}
 

@@ -16,7 +16,7 @@ use Rattle.coords.specs.Coords.{origin}
 use Rattle.coords.specs.Buffers.{vertexRecord, vertexNumbers}
 use Rattle.coords.proofs.Buffers.{vertices-size}
 use Rattle.face.specs.Faces.{Face}
-use Rattle.face.specs.Drawing.{Drawing, Drew}
+use Rattle.face.specs.Contract.Drawing.{Drawing, Drew}
 use Rattle.face.proofs.Draws.{then}
 
 -- ---- one more at the end

@@ -1,7 +1,7 @@
 // An end of a prism: a ring of sixteen points as one face.
 ghost use mathlib.Core.Path.{_≡_};
 ghost use Rattle.coords.specs.Buffers.{vertexNumbers};
-ghost use Rattle.face.specs.Drawing.{Countable, DrawsFace};
+ghost use Rattle.face.specs.Contract.Drawing.{Countable, DrawsFace};
 ghost use Rattle.shape.specs.Shapes.{endFace};
 use coords::Point;
 use coords_vector::Vector;

@@ -21,16 +21,16 @@ use Rattle.coords.specs.Buffers.{vertexRecord, vertexNumbers, verticesIn}
 use Rattle.coords.proofs.Buffers.{vertices-size, vertices-back}
 use Rattle.object.specs.declared.Section.{Section}
 use Rattle.face.specs.Faces.{Triangle, Face, fan, quad}
-use Rattle.face.specs.Drawing.{Drawing, Drew, Countable}
+use Rattle.face.specs.Contract.Drawing.{Drawing, Drew, Countable}
 use Rattle.face.proofs.Counts.{count}
 use Rattle.face.proofs.Draws.{then, drew-countable}
 use Rattle.scene_field.specs.Fields.{sectionAt, sectionsAt}
 use Rattle.shape.specs.Shapes.{Ellipse, ellipse, ellipse0, startOut, endOut, endFace, tubeSide, tubeFaces, tubeCaps, pairs}
-use Rattle.shape.specs.Stages.{fourStages, roundStages, DrewStages}
+use Rattle.shape.specs.Contract.Stages.{fourStages, roundStages, DrewStages}
 use Rattle.shape.proofs.Stages.{stages-capped}
 use Rattle.shape_ring_face.proofs.Rings.{list-more, drew-next}
-use Rattle.shape_section.specs.Places.{EndPlaces}
-use Rattle.shape_round_sweep.specs.Rings.{ringAbout}
+use Rattle.shape_section.specs.Contract.Places.{EndPlaces}
+use Rattle.shape_round_sweep.specs.Contract.Rings.{ringAbout}
 use Rattle.shape_section.proofs.Neighbours.{map-list, pair-drawn, ends-are}
 
 -- ---- lists

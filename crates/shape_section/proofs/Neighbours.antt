@@ -14,11 +14,11 @@ use Rattle.coords_vector.specs.declared.Vector.{Vector}
 use Rattle.coords.specs.Coords.{origin, diff}
 use Rattle.object.specs.declared.Section.{Section}
 use Rattle.face.specs.Faces.{Face}
-use Rattle.face.specs.Drawing.{Drawing, Drew}
+use Rattle.face.specs.Contract.Drawing.{Drawing, Drew}
 use Rattle.face.proofs.Draws.{then}
 use Rattle.scene_field.specs.Fields.{sectionAt, sectionsAt}
 use Rattle.scene.proofs.Parts.{sections-length}
-use Rattle.shape_section.specs.Places.{EndPlaces}
+use Rattle.shape_section.specs.Contract.Places.{EndPlaces}
 use Rattle.shape.specs.Shapes.{pairs, startOut, endOut}
 
 pub map-list : {A B : Type 0} (f : A → B) (g : ℕ → A) (n k : ℕ) → map f (list g n k) ≡ list (λ i. f (g i)) n k

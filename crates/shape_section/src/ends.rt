@@ -1,6 +1,6 @@
 // The places of the sections at a sweep's ends and beside them.
 ghost use Prim.Native.Nat.{_+_, _*_, _<_, _^_};
-ghost use Rattle.shape_section.specs.Places.{EndPlaces};
+ghost use Rattle.shape_section.specs.Contract.Places.{EndPlaces};
 
 // The places of a sweep's last section and of those beside its first and its last one: between these
 // `end_directions` of object_mesh.rs takes its directions. One section alone stands beside itself.

@@ -1,9 +1,9 @@
 // A solid drawn from its record: a box, a cylinder, or nothing where it has no size.
 ghost use mathlib.Core.Path.{_≡_};
 ghost use Rattle.scene_field.specs.Fields.{pointAt};
-ghost use Rattle.scene.specs.Headers.{orientationOf, SolidIn};
-ghost use Rattle.face.specs.Drawing.{Countable};
-ghost use Rattle.shape.specs.Stages.{solidStages, DrawsStages};
+ghost use Rattle.scene.specs.Contract.Headers.{orientationOf, SolidIn};
+ghost use Rattle.face.specs.Contract.Drawing.{Countable};
+ghost use Rattle.shape.specs.Contract.Stages.{solidStages, DrawsStages};
 use face::Tally;
 use object::Extent;
 use object::Orientation;

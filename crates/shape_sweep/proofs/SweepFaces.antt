@@ -16,14 +16,14 @@ use Rattle.coords_vector.specs.Vectors.{vector, unitZ, negate}
 use Rattle.coords.specs.Coords.{diff}
 use Rattle.object.specs.declared.Section.{Section}
 use Rattle.face.specs.Faces.{Face, fan, quad}
-use Rattle.face.specs.Drawing.{Drawing, Drew}
+use Rattle.face.specs.Contract.Drawing.{Drawing, Drew}
 use Rattle.face.proofs.Counts.{count}
 use Rattle.face.proofs.Draws.{then}
 use Rattle.scene_field.specs.Fields.{pointAt, cornerAt, sectionAt, sectionsAt}
 use Rattle.scene.proofs.Parts.{sections-get}
-use Rattle.shape_section.specs.Places.{EndPlaces}
+use Rattle.shape_section.specs.Contract.Places.{EndPlaces}
 use Rattle.shape.specs.Shapes.{section0, isWidthlessSection, isFlatSection, pairFaces, pairs, startOut, endOut, cap, sweepCaps}
-use Rattle.shape.specs.Stages.{fourStages, sweepStages, DrewStages}
+use Rattle.shape.specs.Contract.Stages.{fourStages, sweepStages, DrewStages}
 use Rattle.shape.proofs.Stages.{stages-capped}
 use Rattle.shape_section.proofs.Neighbours.{ends-are}
 

@@ -9,11 +9,11 @@ use Rattle.lists.specs.Loops.{join, every}
 use Rattle.float.specs.Number.{minArea}
 use Rattle.scene.specs.Scene.{scene}
 use Rattle.mesh.specs.Operations.{countsOf, output}
-use Rattle.mesh.specs.Samples.{Upright, upright, bytesOf, head, solidBytes, cornerBytes, outlineBytes, sceneBytes, objectsIn, sameCounts}
-use Rattle.mesh.proofs.Computes.{all}
+use Rattle.test_samples.specs.Samples.{Upright, upright, bytesOf, head, solidBytes, cornerBytes, outlineBytes, sceneBytes, objectsIn, sameCounts}
+use Rattle.test_samples.proofs.Computes.{all}
 use Rattle.mesh_bound.specs.declared.Counting.{Counting}
 use Rattle.mesh_bound.specs.declared.Counting.the-variants.{Exact, Highest}
-use Rattle.mesh_bound.specs.Most.{solidMost, outlineMost, sweepMost, mostOf, exactOf, hasLid, inGroup, countedBy, boundIn, boundOfAll, mostCounts}
+use Rattle.mesh_bound.specs.Contract.Most.{solidMost, outlineMost, sweepMost, mostOf, exactOf, hasLid, inGroup, countedBy, boundIn, boundOfAll, mostCounts}
 
 -- a square from (a, a) to (b, b)
 square : ℕ → ℕ → List Upright

@@ -18,7 +18,7 @@ use Rattle.validate.specs.Numbers.{validationNumbers}
 use Rattle.validate.specs.Validate.{validate}
 use Rattle.mesh.specs.Mesh.{meshOf}
 use Rattle.mesh.specs.Operations.{measure, output}
-use Rattle.mesh.specs.Samples.{solidBytes, solidAtX, upright, outlineBytes, thinBytes, sceneBytes, same, objectsIn}
+use Rattle.test_samples.specs.Samples.{solidBytes, solidAtX, upright, outlineBytes, thinBytes, sceneBytes, same, objectsIn}
 
 -- ---- what is looked at
 

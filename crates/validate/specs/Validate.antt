@@ -34,23 +34,6 @@ trianglesFrom limit vs t (a ∷ b ∷ c ∷ rest) =
     (cond (leb n c) (IndexOutOfRange t c n)
     (cond (degenerate limit vs a b c) (DegenerateTriangle t) later)))
 
--- the verdict on triangle t, of the vertices numbered a, b and c
-unfoldable pub verdictOnTriangle : Float → List Point → ℕ → ℕ → ℕ → ℕ → Verdict
-verdictOnTriangle limit vs t a b c =
-    let n = length vs in
-    cond (leb n a) (IndexOutOfRange t a n)
-    (cond (leb n b) (IndexOutOfRange t b n)
-    (cond (leb n c) (IndexOutOfRange t c n)
-    (cond (degenerate limit vs a b c) (DegenerateTriangle t) Ok)))
-
--- a triangle's verdict, and that of the later ones where it is in order
-unfoldable pub orLater : Verdict → Verdict → Verdict
-orLater Ok later = later
-orLater Empty later = Empty
-orLater (NonFiniteVertex i) later = NonFiniteVertex i
-orLater (IndexOutOfRange t i n) later = IndexOutOfRange t i n
-orLater (DegenerateTriangle t) later = DegenerateTriangle t
-
 -- the vertices are looked at before the triangles
 unfoldable pub verdictAt : Found → Verdict → Verdict
 verdictAt (At i) triangles = NonFiniteVertex i

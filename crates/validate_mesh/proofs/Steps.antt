@@ -14,7 +14,8 @@ use Rattle.coords.specs.declared.Point.{Point}
 use Rattle.coords.specs.Coords.{noArea, origin}
 use Rattle.validate.specs.declared.Verdict.{Verdict}
 use Rattle.validate.specs.declared.Verdict.the-variants.{Ok, IndexOutOfRange, DegenerateTriangle}
-use Rattle.validate.specs.Validate.{degenerate, verdictOnTriangle, trianglesFrom, orLater}
+use Rattle.validate.specs.Validate.{degenerate, trianglesFrom}
+use Rattle.validate.specs.Contract.Validate.{verdictOnTriangle, orLater}
 
 -- a triangle of one index, of two and of three, by its tests
 one : (t n a : ℕ) (later : Verdict) (p : Bool) → cond p (IndexOutOfRange t a n) (DegenerateTriangle t) ≡ orLater (cond p (IndexOutOfRange t a n) (cond p (IndexOutOfRange t a n) (cond p (IndexOutOfRange t a n) (DegenerateTriangle t)))) later

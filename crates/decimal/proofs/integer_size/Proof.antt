@@ -4,7 +4,8 @@ use native.Mathlib.Omega.{arith}
 use lib.ListN.{length}
 use borrow.Author.Needs.{needs}
 use Rattle.decimal.proofs.Signs.{kept-is, size-i64}
-use Rattle.decimal.specs.Decimals.{decimal, integer}
+use Rattle.decimal.specs.Decimals.{decimal}
+use Rattle.decimal.specs.Contract.Decimals.{integer}
 use Rattle.decimal.proofs.integer_size.Statement.{statement}
 use Rattle.decimal.proofs.integer_size.Tie as tie
 

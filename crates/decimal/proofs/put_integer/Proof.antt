@@ -6,7 +6,8 @@ use lib.ListN.{length, set}
 use Rattle.decimal.proofs.Signs.{kept, kept-is}
 use Rattle.decimal.proofs.Stores.{sign-room, sign-place, signed}
 use Rattle.decimal.proofs.Texts.{same-length as kept-length, wrote-as, room-as}
-use Rattle.decimal.specs.Decimals.{decimal, integer}
+use Rattle.decimal.specs.Decimals.{decimal}
+use Rattle.decimal.specs.Contract.Decimals.{integer}
 use Rattle.decimal.proofs.put_integer.Statement.{statement}
 use Rattle.decimal.proofs.put_integer.Tie as tie
 

@@ -4,7 +4,7 @@ use Prim.Native.Nat.{_≤_}
 use native.Mathlib.Omega.{arith}
 use borrow.Author.Needs.{needs}
 use Rattle.decimal.proofs.Bits.{passed}
-use Rattle.decimal.specs.Decimals.{tenTo}
+use Rattle.decimal.specs.Contract.Decimals.{tenTo}
 use Rattle.decimal.proofs.ten_to.Statement.{statement}
 use Rattle.decimal.proofs.ten_to.Tie as tie
 

@@ -1,7 +1,7 @@
 -- `face_draw::counted_with` meets its contract. Assumes nothing.
 use borrow.Author.Tests.{eq-eqb, ne-eqb}
 use native.Mathlib.Omega.{arith}
-use Rattle.face_draw.specs.Sums.{countedWith}
+use Rattle.face_draw.specs.Contract.Sums.{countedWith}
 use Rattle.face_draw.proofs.counted_with.Statement.{statement}
 use Rattle.face_draw.proofs.counted_with.Tie as tie
 

@@ -4,8 +4,8 @@ use native.Mathlib.Omega.{arith}
 use Rattle.buffer.proofs.Vertices.{length-vertices}
 use Rattle.coords.specs.Buffers.{verticesIn}
 use Rattle.face_draw.proofs.OneFace.{length-triangles, all-counted, face-drawn}
-use Rattle.face_judge.specs.Offered.{offered}
-use Rattle.face_triangle.specs.Triangles.{trianglesIn}
+use Rattle.face_judge.specs.Contract.Offered.{offered}
+use Rattle.face_triangle.specs.Contract.Triangles.{trianglesIn}
 use Rattle.face_draw.proofs.face.Statement.{statement}
 use Rattle.face_draw.proofs.face.Tie as tie
 

@@ -12,7 +12,7 @@ use Rattle.coords_vector.specs.Vectors.{zeroV}
 use Rattle.face.specs.Faces.{triangle, fan, quad}
 use Rattle.face_draw.proofs.OneFace.{all-counted, face-drawn, face-counted}
 use Rattle.lists.specs.Loops.{list}
-use Rattle.face_judge.specs.Offered.{offered, offerAll}
+use Rattle.face_judge.specs.Contract.Offered.{offered, offerAll}
 use Rattle.face_draw.proofs.quad.Statement.{statement}
 use Rattle.face_draw.proofs.quad.Tie as tie
 

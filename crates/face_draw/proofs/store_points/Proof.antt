@@ -1,6 +1,6 @@
 -- `face_draw::store_points` meets its contract. Assumes nothing.
 use borrow.Author.Tests.{eq-eqb, ne-eqb}
-use Rattle.face_draw.specs.Sums.{verticesWith, normalsWith}
+use Rattle.face_draw.specs.Contract.Sums.{verticesWith, normalsWith}
 use Rattle.face_draw.proofs.store_points.Statement.{statement}
 use Rattle.face_draw.proofs.store_points.Tie as tie
 

@@ -1,6 +1,6 @@
 -- `face_judge::judge` meets its contract. Assumes nothing.
 use borrow.Author.Needs.{needs}
-use Rattle.face_judge.specs.Offered.{sideOf}
+use Rattle.face_judge.specs.Contract.Offered.{sideOf}
 use Rattle.face_judge.proofs.judge.Statement.{statement}
 use Rattle.face_judge.proofs.judge.Tie as tie
 

@@ -1,6 +1,6 @@
 -- `face_judge::offer` meets its contract. Assumes nothing.
 use borrow.Author.Needs.{needs}
-use Rattle.face_judge.specs.Offered.{gathered, indicesOf}
+use Rattle.face_judge.specs.Contract.Offered.{gathered, indicesOf}
 use Rattle.face_judge.proofs.offer.Statement.{statement}
 use Rattle.face_judge.proofs.offer.Tie as tie
 

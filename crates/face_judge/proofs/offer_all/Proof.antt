@@ -6,8 +6,8 @@ use lib.ListN.{length}
 use Rattle.buffer.proofs.Vertices.{length-vertices}
 use Rattle.coords.specs.Buffers.{verticesIn}
 use Rattle.face_judge.proofs.OneOffered.{one-counted, low-at}
-use Rattle.face_triangle.specs.Triangles.{triangleAt, trianglesIn}
-use Rattle.face_judge.specs.Offered.{offered, offerOne, offerAll, noSum}
+use Rattle.face_triangle.specs.Contract.Triangles.{triangleAt, trianglesIn}
+use Rattle.face_judge.specs.Contract.Offered.{offered, offerOne, offerAll, noSum}
 use Rattle.lists.proofs.Loops.{fold-start, fold-next, fold-end}
 use Rattle.lists.specs.Loops.{list, fold}
 use Rattle.face_judge.proofs.offer_all.Statement.{statement}

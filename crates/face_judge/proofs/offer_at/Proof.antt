@@ -1,6 +1,6 @@
 -- `face_judge::offer_at` meets its contract. Assumes nothing.
 use native.Mathlib.Omega.{arith}
-use Rattle.face_judge.specs.Offered.{offerOne}
+use Rattle.face_judge.specs.Contract.Offered.{offerOne}
 use Rattle.face_judge.proofs.offer_at.Statement.{statement}
 use Rattle.face_judge.proofs.offer_at.Tie as tie
 

@@ -1,7 +1,7 @@
 -- `face_judge::side_at` meets its contract. Assumes nothing.
 use borrow.Author.Needs.{needs}
 use Rattle.buffer.proofs.Vertices.{vertex-in}
-use Rattle.face_judge.specs.Offered.{sideIn}
+use Rattle.face_judge.specs.Contract.Offered.{sideIn}
 use Rattle.face_judge.proofs.side_at.Statement.{statement}
 use Rattle.face_judge.proofs.side_at.Tie as tie
 

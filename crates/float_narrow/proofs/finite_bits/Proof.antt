@@ -9,7 +9,8 @@ use lib.Dec.{lit≤, lit<, leb}
 use lib.Ieee.{binary32, binary64, ofBits}
 use mathlib.Core.Bool.{cond}
 use lib.Ieee.Nearest.{closest}
-use Rattle.float.specs.Rounding.{exponent, convert}
+use Rattle.float.specs.Rounding.{convert}
+use Rattle.float.specs.Contract.Rounding.{exponent}
 use Rattle.float.proofs.Rounding.{Number, exponent-lt}
 use Rattle.float.proofs.Narrowing.{zeros-lt, top-lt, narrows-to-zero, narrows-low, narrows-normal, kept-le}
 use Rattle.float_narrow.proofs.finite_bits.Statement.{statement}

@@ -8,7 +8,8 @@ use lib.Count.{leadingZeros, leading-top}
 use lib.Dec.{lit≤}
 use lib.Ieee.{binary32, ofBits}
 use lib.Pow.{pow-mono}
-use Rattle.float.specs.Rounding.{root, squareRoot, exponent}
+use Rattle.float.specs.Rounding.{root, squareRoot}
+use Rattle.float.specs.Contract.Rounding.{exponent}
 use Rattle.float.proofs.Rounding.{Number, normalised, significand-low, significand-high}
 use Rattle.float.proofs.Root.{zeros-lt, sqrt-bits}
 use Rattle.float_sqrt.proofs.root_bits.Statement.{statement}

@@ -14,7 +14,8 @@ use lib.Ieee.Bits.{ofBits-toBits}
 use lib.Ieee.Compare.{differs-from-itself}
 use lib.Ieee.Exact.{HasValue}
 use borrow.Author.Tests.{le-leb}
-use Rattle.float.specs.Rounding.{squareRoot, significand, exponent}
+use Rattle.float.specs.Rounding.{squareRoot}
+use Rattle.float.specs.Contract.Rounding.{significand, exponent}
 use Rattle.float.proofs.Rounding.{not-nan, pattern-le, no-nan-bits, read, field-lt, significand-pos}
 use Rattle.float_sqrt.proofs.sqrt.Statement.{statement}
 use Rattle.float_sqrt.proofs.sqrt.Tie as tie

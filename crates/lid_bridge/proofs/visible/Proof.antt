@@ -5,7 +5,7 @@ use native.Mathlib.Omega.{arith}
 use lib.Ieee.{nanBits, ofBits}
 use lib.ListN.{length}
 use Rattle.lid.specs.Bridges.{seenAt, visible}
-use Rattle.lid.specs.Rings.{flats}
+use Rattle.lid.specs.Contract.Rings.{flats}
 use Rattle.lid.specs.declared.Seen.{Seen}
 use Rattle.lists.proofs.Loops.{loop-start, loop-next, loop-end}
 use Rattle.lists.specs.Loops.{loop}

@@ -8,7 +8,7 @@ use lib.Seq.{length-take-le}
 use borrow.Author.Needs.{needs}
 use Rattle.lid_clip.proofs.ClipRun.{ring-room, why-room, Clipping, clip-start, clip-again, clip-end, step-in, step-over}
 use Rattle.lid_clip_ear.proofs.EarLaws.{Noting, noting-start, noting-mid, noting-again, both-long}
-use Rattle.lid.specs.Rings.{flats}
+use Rattle.lid.specs.Contract.Rings.{flats}
 use Rattle.lid_clip.proofs.clip.Statement.{statement}
 use Rattle.lid_clip.proofs.clip.Tie as tie
 use denote.Ref.{now}

@@ -3,7 +3,7 @@ use Prim.Native.Nat.{_-_}
 use borrow.Author.Needs.{needs}
 use borrow.Author.Tests.{le-leb, lt-leb}
 use Rattle.lid.specs.Clipping.{cutStraight, cutEar, clipStep}
-use Rattle.lid_clip.specs.StepNotes.{stepNotes}
+use Rattle.lid_clip.specs.Contract.StepNotes.{stepNotes}
 use Rattle.lid_clip.proofs.clip_step.Statement.{statement}
 use Rattle.lid_clip.proofs.clip_step.Tie as tie
 

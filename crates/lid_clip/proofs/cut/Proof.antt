@@ -5,7 +5,7 @@ use native.Mathlib.Nat.{add-zero}
 use borrow.Author.Needs.{needs}
 use borrow.Author.Tests.{eq-eqb, ne-eqb}
 use Rattle.lid.specs.Lid.{earsOf}
-use Rattle.lid.specs.Written.{triangleNumbers}
+use Rattle.lid.specs.Contract.Written.{triangleNumbers}
 use Rattle.lists.specs.Loops.{join}
 use Rattle.lid_clip.proofs.cut.Statement.{statement}
 use Rattle.lid_clip.proofs.cut.Tie as tie

@@ -4,8 +4,8 @@ use Prim.Native.Nat.{_-_}
 use native.Mathlib.Omega.{arith}
 use lib.ListN.{length}
 use borrow.Author.Needs.{needs}
-use Rattle.lid_clip_ear.specs.Ears.{blocks}
-use Rattle.lid.specs.Rings.{flats}
+use Rattle.lid_clip_ear.specs.Contract.Ears.{blocks}
+use Rattle.lid.specs.Contract.Rings.{flats}
 use Rattle.lists.proofs.Loops.{first-found, first-next, first-end}
 use Rattle.lists.specs.Loops.{first}
 use Rattle.lid_clip_ear.proofs.find_block.Statement.{statement}

@@ -5,7 +5,7 @@ use native.Mathlib.Omega.{arith}
 use lib.ListN.{length}
 use borrow.Author.Needs.{needs}
 use Rattle.lid_clip_ear.proofs.EarLaws.{Looking, looking-start, looking-pass, looking-next, looking-found, looking-end}
-use Rattle.lid.specs.Rings.{flats}
+use Rattle.lid.specs.Contract.Rings.{flats}
 use Rattle.lid_clip_ear.proofs.find_ear.Statement.{statement}
 use Rattle.lid_clip_ear.proofs.find_ear.Tie as tie
 use denote.Ref.{now}

@@ -1,6 +1,6 @@
 -- `lid_clip_ear::test_corners` meets its contract. Assumes nothing.
 use borrow.Author.Needs.{needs}
-use Rattle.lid_clip_ear.specs.Ears.{told, behind}
+use Rattle.lid_clip_ear.specs.Contract.Ears.{told, behind}
 use Rattle.lid_clip_ear.proofs.test_corners.Statement.{statement}
 use Rattle.lid_clip_ear.proofs.test_corners.Tie as tie
 

@@ -2,7 +2,7 @@
 use mathlib.Core.Path.{_∙_}
 use borrow.Author.Needs.{needs}
 use Rattle.lid_clip_ear.proofs.TestLaws.{tells-on, tells-turned, tells-unturned}
-use Rattle.lid.specs.Rings.{flats}
+use Rattle.lid.specs.Contract.Rings.{flats}
 use Rattle.lid_clip_ear.proofs.test_place.Statement.{statement}
 use Rattle.lid_clip_ear.proofs.test_place.Tie as tie
 use denote.Ref.{now}

@@ -4,7 +4,7 @@ use Prim.Native.Nat.{_-_}
 use lib.ListN.{length}
 use lib.Seq.{length-take-le}
 use Rattle.lid_cut.proofs.CutLaws.{clip-room, left-in, left-room, ears-room, sum-room, cut-draws}
-use Rattle.lid.specs.Rings.{flats}
+use Rattle.lid.specs.Contract.Rings.{flats}
 use Rattle.lid_cut.proofs.cut_ring.Statement.{statement}
 use Rattle.lid_cut.proofs.cut_ring.Tie as tie
 use denote.Ref.{now}

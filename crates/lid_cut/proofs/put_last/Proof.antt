@@ -6,7 +6,7 @@ use borrow.Author.Needs.{needs}
 use borrow.Author.Tests.{eq-eqb, ne-eqb}
 use Rattle.lid.specs.Lid.{lastTriangle}
 use Rattle.lid.specs.Rings.{turnOf}
-use Rattle.lid.specs.Written.{triangleNumbers}
+use Rattle.lid.specs.Contract.Written.{triangleNumbers}
 use Rattle.lists.specs.Loops.{join}
 use Rattle.lid_cut.proofs.put_last.Statement.{statement}
 use Rattle.lid_cut.proofs.put_last.Tie as tie

@@ -9,7 +9,7 @@ use lib.Seq.{drop-cons}
 use borrow.Author.Needs.{needs}
 use Rattle.lid_log.proofs.RecordLaws.{log-next, log-end}
 use Rattle.lid.specs.Log.{entry}
-use Rattle.lid.specs.Written.{logWith}
+use Rattle.lid.specs.Contract.Written.{logWith}
 use Rattle.lid_cut.proofs.put_left.Statement.{statement}
 use Rattle.lid_cut.proofs.put_left.Tie as tie
 use denote.Ref.{now}

@@ -3,7 +3,7 @@ use mathlib.Core.Path.{_≡_, sym}
 use Prim.Native.Nat.{_≤_, _-_}
 use native.Mathlib.Omega.{arith}
 use Rattle.lid_hole.proofs.HoleLaws.{start-first, start-in, start-next}
-use Rattle.lid_hole.specs.Holes.{holeStart}
+use Rattle.lid_hole.specs.Contract.Holes.{holeStart}
 use Rattle.lid_hole.proofs.hole_start.Statement.{statement}
 use Rattle.lid_hole.proofs.hole_start.Tie as tie
 use denote.Ref.{now}

@@ -6,7 +6,7 @@ use lib.ListN.{getD}
 use lib.Seq.{length-take-le}
 use borrow.Author.Needs.{needs}
 use Rattle.lid_hole.proofs.HoleLaws.{start-in, hole-small, hole-written}
-use Rattle.lid.specs.Rings.{flats}
+use Rattle.lid.specs.Contract.Rings.{flats}
 use Rattle.lid_hole.proofs.write_hole.Statement.{statement}
 use Rattle.lid_hole.proofs.write_hole.Tie as tie
 use denote.Ref.{now}

@@ -5,7 +5,7 @@ use lib.ListN.{length}
 use lib.Seq.{length-take-le}
 use borrow.Author.Needs.{needs}
 use Rattle.lid_join.proofs.JoinLaws.{front-fits, joint-low, joint-fits, join-at, join-none}
-use Rattle.lid.specs.Rings.{flats}
+use Rattle.lid.specs.Contract.Rings.{flats}
 use Rattle.lid_join.proofs.join.Statement.{statement}
 use Rattle.lid_join.proofs.join.Tie as tie
 use denote.Ref.{now}

@@ -3,7 +3,7 @@ use Prim.Native.Nat.{_-_}
 use native.Mathlib.Omega.{arith}
 use lib.ListN.{length}
 use Rattle.lid_join.proofs.JoinLaws.{Joining, join-start, join-again, join-end, next-fit, next-room}
-use Rattle.lid.specs.Rings.{flats}
+use Rattle.lid.specs.Contract.Rings.{flats}
 use Rattle.lid_join.proofs.join_holes.Statement.{statement}
 use Rattle.lid_join.proofs.join_holes.Tie as tie
 use denote.Ref.{now}

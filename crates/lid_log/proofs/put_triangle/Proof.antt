@@ -1,6 +1,6 @@
 -- `lid_log::put_triangle` meets its contract. Assumes nothing.
 use borrow.Author.Needs.{needs}
-use Rattle.lid.specs.Written.{triangleNumbers}
+use Rattle.lid.specs.Contract.Written.{triangleNumbers}
 use Rattle.lists.specs.Loops.{join}
 use Rattle.lid_log.proofs.put_triangle.Statement.{statement}
 use Rattle.lid_log.proofs.put_triangle.Tie as tie

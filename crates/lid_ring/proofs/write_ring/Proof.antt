@@ -3,7 +3,7 @@ use Prim.Native.Nat.{_-_}
 use lib.ListN.{length}
 use borrow.Author.Needs.{needs}
 use Rattle.lid_ring.proofs.RingLaws.{ring-small, ring-back, ring-kept}
-use Rattle.lid.specs.Rings.{flats}
+use Rattle.lid.specs.Contract.Rings.{flats}
 use Rattle.lid_ring.proofs.write_ring.Statement.{statement}
 use Rattle.lid_ring.proofs.write_ring.Tie as tie
 use denote.Ref.{now}

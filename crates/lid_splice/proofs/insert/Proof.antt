@@ -4,7 +4,7 @@ use Prim.Native.Nat.{_<_, _-_}
 use native.Mathlib.Omega.{arith}
 use lib.ListN.{length, take, length-set}
 use Rattle.lid_splice.proofs.SpliceLaws.{insert-step, insert-last}
-use Rattle.lid.specs.Steps.{insertAt}
+use Rattle.lid.specs.Contract.Steps.{insertAt}
 use Rattle.lid_splice.proofs.insert.Statement.{statement}
 use Rattle.lid_splice.proofs.insert.Tie as tie
 use denote.Ref.{now}

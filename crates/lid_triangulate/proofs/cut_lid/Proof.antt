@@ -6,7 +6,7 @@ use lib.ListN.{length}
 use lib.Seq.{length-take-le, length-front}
 use borrow.Author.Needs.{needs}
 use Rattle.lid_triangulate.proofs.LidLaws.{outer-fits, outer-low, outer-kept, lid-small, lid-open, outer-stands, outer-small}
-use Rattle.lid.specs.Rings.{flats}
+use Rattle.lid.specs.Contract.Rings.{flats}
 use Rattle.lid_triangulate.proofs.cut_lid.Statement.{statement}
 use Rattle.lid_triangulate.proofs.cut_lid.Tie as tie
 use denote.Ref.{now}

@@ -7,8 +7,8 @@ use lib.ListN.{length, take}
 use lib.Seq.{length-take-le, length-front}
 use borrow.Author.Needs.{needs}
 use Rattle.lid_triangulate.proofs.LidLaws.{corners-low, counts-fit, order-joins, order-room, holes-low, order-low, order-fits, order-count, open-draws, joined-fits, joined-room, joined-draws}
-use Rattle.lid_hole.specs.Holes.{holeAt}
-use Rattle.lid.specs.Rings.{flats}
+use Rattle.lid_hole.specs.Contract.Holes.{holeAt}
+use Rattle.lid.specs.Contract.Rings.{flats}
 use Rattle.lid_triangulate.proofs.cut_open.Statement.{statement}
 use Rattle.lid_triangulate.proofs.cut_open.Tie as tie
 use denote.Ref.{now}

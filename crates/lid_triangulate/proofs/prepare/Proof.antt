@@ -5,7 +5,7 @@ use lib.ListN.{length, take}
 use lib.Seq.{length-take-le}
 use borrow.Author.Needs.{needs}
 use Rattle.lid_triangulate.proofs.LidLaws.{still, few-low, front-few, front-low, prepare-done}
-use Rattle.lid.specs.Rings.{flats}
+use Rattle.lid.specs.Contract.Rings.{flats}
 use Rattle.lid_triangulate.proofs.prepare.Statement.{statement}
 use Rattle.lid_triangulate.proofs.prepare.Tie as tie
 use denote.Ref.{now}

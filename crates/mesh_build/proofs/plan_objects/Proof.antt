@@ -1,7 +1,7 @@
 -- `mesh_build::plan_objects` meets its contract. Assumes nothing.
 use borrow.Author.Needs.{needs}
 use Rattle.scene.proofs.Walk.{checked-accepted}
-use Rattle.mesh_answer.specs.Answers.{lengthsFrom}
+use Rattle.mesh_answer.specs.Contract.Answers.{lengthsFrom}
 use Rattle.mesh_bound.specs.declared.Counting.the-variants.{Exact, Highest}
 use Rattle.mesh_build.proofs.Built.{plan-bounded, plan-measured}
 use Rattle.mesh_build.proofs.plan_objects.Statement.{statement}

@@ -14,20 +14,20 @@ use Rattle.lists.specs.Loops.{join, sumOf}
 use Rattle.coords.specs.Buffers.{vertexNumbers, normalNumbers}
 use Rattle.object.specs.Object.{Shape, Object}
 use Rattle.scene.specs.declared.headers.Header.{Header}
-use Rattle.scene.specs.Headers.{headerAt, shapeOf, objectOf}
+use Rattle.scene.specs.Contract.Headers.{headerAt, shapeOf, objectOf}
 use Rattle.face.specs.declared.Tally.{Tally}
 use Rattle.face.specs.Faces.{Face, Piece, thinIn, keptOf, writeFaces}
-use Rattle.face.specs.Drawing.{tally, Drawing, drawing, counted, drawn}
+use Rattle.face.specs.Contract.Drawing.{tally, Drawing, drawing, counted, drawn}
 use Rattle.lid.specs.Log.{logNumbers}
 use Rattle.shape.specs.declared.Drawn.{Drawn}
-use Rattle.shape.specs.Drawn.{CanDraw, DrewObject}
+use Rattle.shape.specs.Contract.Drawn.{CanDraw, DrewObject}
 use Rattle.shape.specs.Shapes.{facesOf, logOf}
 use Rattle.shape.specs.Price.{offered}
-use Rattle.shape.specs.Stages.{lastOf}
+use Rattle.shape.specs.Contract.Stages.{lastOf}
 use Rattle.shape.proofs.Stages.{stages-faces}
 use Rattle.mesh_progress.specs.declared.Progress.{Progress}
 use Rattle.mesh.specs.Mesh.{Span, keptBy, thinBy, accountOf, pieceOf, spanOf, spanNumbers, accountNumbers}
-use Rattle.mesh_progress.specs.Pass.{drawnInto, clamped, spanBy, Came, cameTo, accountBy, spansMore, advanced, CanAdvance, drawnOf, DrewBehind, passOf, withObject, Fits, CanAdd, AddedObject}
+use Rattle.mesh_progress.specs.Contract.Pass.{drawnInto, clamped, spanBy, Came, cameTo, accountBy, spansMore, advanced, CanAdvance, drawnOf, DrewBehind, passOf, withObject, Fits, CanAdd, AddedObject}
 use Rattle.mesh.proofs.Demand3.Spans.{piece-size}
 use Rattle.mesh_progress.proofs.Pass.Tails.{tailOf, backOf, lent-back}
 

@@ -15,10 +15,11 @@ use Rattle.lid.specs.Log.{entryRecord, logNumbers}
 use Rattle.shape.specs.Shapes.{logOf}
 use Rattle.mesh_progress.specs.declared.Progress.{Progress}
 use Rattle.mesh.specs.Mesh.{Mesh, keptBy, accountOf, pieceOf, spanOf, addPiece, meshFrom, meshOf, accountsOf, logsOf, spanRecord, spanNumbers, accountRecord, accountNumbers}
-use Rattle.mesh.specs.PerBuffer.{Buffers, FitCounts}
+use Rattle.mesh.specs.PerBuffer.{Buffers}
+use Rattle.mesh.specs.Contract.PerBuffer.{FitCounts}
 use Rattle.mesh.specs.Operations.{written, output, countsOf}
-use Rattle.mesh_progress.specs.Pass.{Pass, passOf, begun, storedBehind, withObject, withObjects, passedBy, Fits}
-use Rattle.mesh_progress.specs.Wrote.{countedBy, stored, WroteAll}
+use Rattle.mesh_progress.specs.Contract.Pass.{Pass, passOf, begun, storedBehind, withObject, withObjects, passedBy, Fits}
+use Rattle.mesh_progress.specs.Contract.Wrote.{countedBy, stored, WroteAll}
 use Rattle.mesh_answer.specs.declared.Counted.{Counted}
 use Rattle.mesh_answer.specs.Answers.{countsFrom}
 use Rattle.mesh.proofs.Demand3.Spans.{piece-size}

@@ -12,7 +12,7 @@ use lib.Seq.{sets, set-out, sets-eq, take-all, length-take-le}
 use borrow.Author.Tests.{leb-true, leb-false}
 use Rattle.lists.specs.Loops.{over}
 use Rattle.lists.proofs.Stores.{sets-append}
-use Rattle.mesh_progress.specs.Pass.{clamped}
+use Rattle.mesh_progress.specs.Contract.Pass.{clamped}
 
 module _ {A : Type 0} where
   sets-cons : (x : A) (l : List A) (i : ℕ) (w : List A) → sets (x ∷ l) (suc i) w ≡ x ∷ sets l i w

@@ -9,16 +9,16 @@ use lib.Ieee.{Float}
 use Rattle.object.specs.Object.{Object}
 use Rattle.scene.specs.declared.scenes.Checked.the-variants.{Accepted}
 use Rattle.scene.specs.Scene.{accepted, scene, trailer}
-use Rattle.scene.specs.Answers.{checkedOf, objectsOf}
-use Rattle.scene.specs.Headers.{headerAt, objectOf}
+use Rattle.scene.specs.Contract.Answers.{checkedOf, objectsOf}
+use Rattle.scene.specs.Contract.Headers.{headerAt, objectOf}
 use Rattle.scene.proofs.Walk.{Walking, walk-object, walk-next, walk-limits, walk-inside, AcceptedAs, checked-accepted, trailer-inside}
 use Rattle.mesh_answer.specs.declared.Counted.{Counted}
 use Rattle.mesh_answer.specs.Answers.{countsFrom}
 use Rattle.mesh_progress.specs.declared.Progress.{Progress}
-use Rattle.mesh_progress.specs.Wrote.{countedBy, WroteAll}
+use Rattle.mesh_progress.specs.Contract.Wrote.{countedBy, WroteAll}
 use Rattle.mesh.specs.PerBuffer.{Buffers}
 use Rattle.mesh.specs.Operations.{countsOf}
-use Rattle.mesh_progress.specs.Pass.{drawnInto, beginning, Pass, passOf, withObject, withObjects, Fits, CanAdd, AddedObject, CanAddAll, AddedAll}
+use Rattle.mesh_progress.specs.Contract.Pass.{drawnInto, beginning, Pass, passOf, withObject, withObjects, Fits, CanAdd, AddedObject, CanAddAll, AddedAll}
 use Rattle.mesh_progress.proofs.Pass.Objects.{objects-none, objects-next, object-lengths, fewer-fit, other-buffers, wrote-all}
 
 -- from p₀ with its buffers b₀, k objects of the scene have led to p with b

@@ -1,7 +1,7 @@
 -- `mesh_progress::clamp` meets its contract. Assumes nothing.
 use native.Mathlib.Nat.{le-refl}
 use borrow.Author.Tests.{le-leb, lt-leb}
-use Rattle.mesh_progress.specs.Pass.{clamped}
+use Rattle.mesh_progress.specs.Contract.Pass.{clamped}
 use Rattle.mesh_progress.proofs.clamp.Statement.{statement}
 use Rattle.mesh_progress.proofs.clamp.Tie as tie
 

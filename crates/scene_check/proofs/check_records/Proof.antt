@@ -5,7 +5,7 @@ use native.Mathlib.Nat.{le-antisymm}
 use native.Mathlib.Omega.{arith}
 use borrow.Author.Needs.{needs}
 use Rattle.scene.proofs.SceneLaws.{plus, plus-none, ahead, ahead-all, ahead-start, ahead-bad, ahead-good, ahead-end, ahead-short}
-use Rattle.scene.specs.Answers.{checkedOf}
+use Rattle.scene.specs.Contract.Answers.{checkedOf}
 use Rattle.scene.specs.Scene.{recordsFrom}
 use Rattle.refusal.specs.declared.Refusal.the-variants.{Start}
 use Rattle.scene.specs.declared.scenes.Checked.the-variants.{Refused, Accepted}

@@ -2,7 +2,7 @@
 use Prim.Native.Nat.{_+_}
 use lib.ListN.{getD}
 use Rattle.scene.proofs.HeaderLaws.{body-other}
-use Rattle.scene.specs.Headers.{bodyAt, headerAt}
+use Rattle.scene.specs.Contract.Headers.{bodyAt, headerAt}
 use borrow.Author.Needs.{needs}
 use Rattle.scene_header.proofs.header_at.Statement.{statement}
 use Rattle.scene_header.proofs.header_at.Tie as tie

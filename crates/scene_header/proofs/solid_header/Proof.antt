@@ -5,7 +5,7 @@ use native.Mathlib.Omega.{arith}
 use Rattle.scene_field.specs.Layout.{positionBytes, orientationBytes, sizesFrom}
 use Rattle.scene.specs.declared.headers.Header.{Header}
 use Rattle.scene.specs.declared.headers.Body.the-variants.{Solid}
-use Rattle.scene.specs.Headers.{solidFrom, volumeSize}
+use Rattle.scene.specs.Contract.Headers.{solidFrom, volumeSize}
 use borrow.Author.Needs.{needs}
 use Rattle.scene_header.proofs.solid_header.Statement.{statement}
 use Rattle.scene_header.proofs.solid_header.Tie as tie

@@ -1,6 +1,6 @@
 -- `shape_box::axis_at` meets its contract. Assumes nothing.
 use mathlib.Core.Path.{sym}
-use Rattle.shape_box.specs.Axes.{axisOf, axisNo}
+use Rattle.shape_box.specs.Contract.Axes.{axisOf, axisNo}
 use Rattle.shape_box.proofs.BoxLaws.{axis-last}
 use Rattle.shape_box.proofs.axis_at.Statement.{statement}
 use Rattle.shape_box.proofs.axis_at.Tie as tie

@@ -1,7 +1,7 @@
 -- `shape_box::corner` meets its contract. Assumes nothing.
 use borrow.Author.Needs.{needs}
 use Rattle.shape.specs.Shapes.{onAxis}
-use Rattle.shape_box.specs.Axes.{axisOf}
+use Rattle.shape_box.specs.Contract.Axes.{axisOf}
 use Rattle.shape_box.proofs.corner.Statement.{statement}
 use Rattle.shape_box.proofs.corner.Tie as tie
 

@@ -4,9 +4,9 @@ use Prim.Native.Nat.{_+_, _-_, _*_, _≤_, zero-le}
 use native.Mathlib.Nat.{le-antisymm}
 use native.Mathlib.Omega.{arith}
 use borrow.Author.Needs.{needs}
-use Rattle.face.specs.Drawing.{drawing}
+use Rattle.face.specs.Contract.Drawing.{drawing}
 use Rattle.face.proofs.Draws.{drew-vertices, drew-normals, drew-indices}
-use Rattle.shape_box.specs.Axes.{axisNo, depthNo, sidesNo}
+use Rattle.shape_box.specs.Contract.Axes.{axisNo, depthNo, sidesNo}
 use Rattle.shape_box.proofs.BoxLaws.{Drawn, drawn-start, drawn-countable, drawn-next, drawn-all}
 use Rattle.shape_box.proofs.cuboid.Statement.{statement}
 use Rattle.shape_box.proofs.cuboid.Tie as tie

@@ -1,6 +1,6 @@
 -- `shape_box::depth_at` meets its contract. Assumes nothing.
 use mathlib.Core.Path.{sym}
-use Rattle.shape_box.specs.Axes.{depthNo}
+use Rattle.shape_box.specs.Contract.Axes.{depthNo}
 use Rattle.shape_box.proofs.BoxLaws.{depth-last}
 use Rattle.shape_box.proofs.depth_at.Statement.{statement}
 use Rattle.shape_box.proofs.depth_at.Tie as tie

@@ -1,7 +1,7 @@
 -- `shape_box::direction` meets its contract. Assumes nothing.
 use borrow.Author.Needs.{needs}
 use Rattle.shape.specs.Shapes.{onAxis}
-use Rattle.shape_box.specs.Axes.{axisOf}
+use Rattle.shape_box.specs.Contract.Axes.{axisOf}
 use Rattle.shape_box.proofs.direction.Statement.{statement}
 use Rattle.shape_box.proofs.direction.Tie as tie
 

@@ -5,7 +5,7 @@ use native.Mathlib.Nat.{le-antisymm}
 use native.Mathlib.Omega.{arith}
 use lib.ListN.{getD}
 use Rattle.face.proofs.Draws.{drew-none, drew-vertices, drew-normals, drew-indices}
-use Rattle.face.specs.Drawing.{drawing, Drew}
+use Rattle.face.specs.Contract.Drawing.{drawing, Drew}
 use Rattle.lists.specs.Loops.{list}
 use Rattle.shape_ring_face.proofs.Rings.{drew-next}
 use Rattle.shape.proofs.Sized.{countable-left}

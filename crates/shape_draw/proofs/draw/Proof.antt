@@ -9,7 +9,7 @@ use Rattle.scene.proofs.HeaderLaws.{solid-in}
 use Rattle.shape_outline.proofs.OutlineLaws.{can-place}
 use Rattle.shape.specs.Price.{offered}
 use Rattle.shape.specs.Shapes.{logOf}
-use Rattle.shape.specs.Stages.{stagesOf}
+use Rattle.shape.specs.Contract.Stages.{stagesOf}
 use Rattle.shape_draw.proofs.draw.Statement.{statement}
 use Rattle.shape_draw.proofs.draw.Tie as tie
 

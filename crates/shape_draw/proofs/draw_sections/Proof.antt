@@ -8,7 +8,7 @@ use Rattle.scene.proofs.Parts.{sections-length}
 use Rattle.scene_field.specs.Fields.{sectionsAt}
 use Rattle.shape.specs.Price.{offered}
 use Rattle.shape.specs.Shapes.{logOf}
-use Rattle.shape.specs.Stages.{stagesOf}
+use Rattle.shape.specs.Contract.Stages.{stagesOf}
 use Rattle.shape_draw.proofs.draw_sections.Statement.{statement}
 use Rattle.shape_draw.proofs.draw_sections.Tie as tie
 

@@ -3,7 +3,7 @@ use mathlib.Core.Path.{_≡_, refl, ap, _∙_}
 use Prim.Native.Nat.{_<_, _≤_, _+_, _-_, _*_}
 use native.Mathlib.Omega.{arith}
 use lib.ListN.{length}
-use Rattle.face.specs.Drawing.{drawing, drawn, Countable}
+use Rattle.face.specs.Contract.Drawing.{drawing, drawn, Countable}
 use Rattle.lists.specs.Loops.{list}
 use Rattle.scene_field.specs.Fields.{cornerAt, cornersAt}
 use Rattle.shape_outline_walls.proofs.Drawings.{faces-start, faces-next, faces-end}

@@ -5,14 +5,14 @@ use Prim.Native.Nat.{ℕ, _+_, _-_, _*_, _<_}
 use native.Mathlib.Omega.{arith}
 use lib.ListN.{length}
 use Rattle.lists.specs.Loops.{list, sumOf}
-use Rattle.face.specs.Drawing.{drawing, Drew, Countable}
+use Rattle.face.specs.Contract.Drawing.{drawing, Drew, Countable}
 use Rattle.face.specs.Faces.{fan}
 use Rattle.face.proofs.Draws.{drew-countable, drew-none, drew-vertices, drew-normals, drew-indices, countable-less}
 use Rattle.object.specs.declared.Section.{Section}
 use Rattle.scene_field.specs.Fields.{sectionAt, sectionsAt}
 use Rattle.shape.specs.Shapes.{pairs, ellipse, endFace, tubeFaces}
 use Rattle.shape.proofs.Stages.{stages-nothing}
-use Rattle.shape_round_sweep.specs.Rings.{ringAbout}
+use Rattle.shape_round_sweep.specs.Contract.Rings.{ringAbout}
 use Rattle.shape_section.proofs.Neighbours.{second-in}
 use Rattle.shape_round_sweep.proofs.RingFaces.{tube-points, tube-triangles, tube-drawn, ring-size, round-none, round-drawn}
 use Rattle.shape_round_sweep.proofs.round_sweep.Statement.{statement}

@@ -1,6 +1,6 @@
 -- `shape_solid::solid` meets its contract. Assumes nothing.
 use borrow.Author.Needs.{needs}
-use Rattle.shape.specs.Stages.{solidStages}
+use Rattle.shape.specs.Contract.Stages.{solidStages}
 use Rattle.shape.proofs.Stages.{stages-nothing}
 use Rattle.shape_solid.proofs.solid.Statement.{statement}
 use Rattle.shape_solid.proofs.solid.Tie as tie

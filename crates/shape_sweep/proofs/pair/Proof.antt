@@ -4,7 +4,7 @@ use Prim.Native.Nat.{_-_}
 use lib.Dec.{lit≤}
 use Rattle.lists.specs.Loops.{list, sumOf}
 use Rattle.face.specs.Faces.{fan, quad}
-use Rattle.face.specs.Drawing.{Countable}
+use Rattle.face.specs.Contract.Drawing.{Countable}
 use Rattle.face.proofs.Draws.{drew-countable, countable-less}
 use Rattle.shape_sweep.proofs.SweepFaces.{widthless-pair, flat-pair, whole-pair}
 use Rattle.shape_sweep.proofs.pair.Statement.{statement}

@@ -4,7 +4,7 @@ use Prim.Native.Nat.{ℕ, _+_, _-_, _*_, _<_}
 use native.Mathlib.Omega.{arith}
 use Rattle.lists.specs.Loops.{list, sumOf}
 use Rattle.face.specs.Faces.{fan, quad}
-use Rattle.face.specs.Drawing.{drawing, Drew, Countable}
+use Rattle.face.specs.Contract.Drawing.{drawing, Drew, Countable}
 use Rattle.face.proofs.Draws.{drew-countable, drew-none, drew-vertices, drew-normals, drew-indices, countable-less}
 use Rattle.scene_field.specs.Fields.{sectionAt, sectionsAt}
 use Rattle.shape.specs.Shapes.{pairFaces, pairs}

@@ -1,7 +1,7 @@
 -- `validate_mesh::triangle` meets its contract: its tests are the definition's, in its order. Assumes nothing.
 use borrow.Author.Tests.{le-leb, lt-leb}
 use Rattle.buffer.proofs.Vertices.{length-vertices}
-use Rattle.validate.specs.Validate.{verdictOnTriangle}
+use Rattle.validate.specs.Contract.Validate.{verdictOnTriangle}
 use Rattle.validate_mesh.proofs.triangle.Statement.{statement}
 use Rattle.validate_mesh.proofs.triangle.Tie as tie
 

@@ -9,7 +9,8 @@ use Prim.Native.Nat.{ℕ, _+_, _≤_, _-_}
 use native.Mathlib.Omega.{arith}
 use lib.ListN.{length, drop}
 use Rattle.coords.specs.Buffers.{verticesIn}
-use Rattle.validate.specs.Validate.{trianglesFrom, orLater}
+use Rattle.validate.specs.Validate.{trianglesFrom}
+use Rattle.validate.specs.Contract.Validate.{orLater}
 use Rattle.validate.specs.declared.Verdict.{Verdict}
 use Rattle.validate.specs.declared.Verdict.the-variants.{Ok, Empty, NonFiniteVertex, IndexOutOfRange, DegenerateTriangle}
 use Rattle.validate.proofs.Verdict.{the-type}

@@ -4,7 +4,7 @@ use Prim.Native.Nat.{_+_, _-_, _*_, _≤_, _<_}
 use native.Mathlib.Omega.{arith}
 use lib.Dec.{T}
 use lib.Ieee.{binary32, binary64, fits, toBits}
-use Rattle.float.specs.Thin.{middle}
+use Rattle.float.specs.Contract.Thin.{middle}
 use Rattle.float.proofs.Rounding.{no-nan-bits}
 use Rattle.float.proofs.Thin.{above-bits, above-no-nan, bound-above, bound-low, naughts}
 use Rattle.coords.proofs.thin.thin_bound.Statement.{statement}

@@ -4,7 +4,7 @@ use Prim.Native.Nat.{_≤_, _<_, _-_}
 use native.Mathlib.Omega.{arith}
 use lib.ListN.{length}
 use Rattle.lid.specs.Bridges.{rightmostStep, rightmost}
-use Rattle.lid.specs.Rings.{flats}
+use Rattle.lid.specs.Contract.Rings.{flats}
 use Rattle.lists.proofs.Loops.{loop-start, loop-next, loop-end}
 use Rattle.lists.specs.Loops.{loop}
 use Rattle.lid_bridge.proofs.ray.rightmost.Statement.{statement}

@@ -3,7 +3,7 @@ use Prim.Native.Nat.{_+_}
 use native.Mathlib.Omega.{arith}
 use borrow.Author.Needs.{needs}
 use borrow.Author.Tests.{lt-ltb, le-ltb}
-use Rattle.lid_clip_ear.specs.Notes.{failedAt}
+use Rattle.lid_clip_ear.specs.Contract.Notes.{failedAt}
 use Rattle.lid_clip_ear.proofs.notes.failed.Statement.{statement}
 use Rattle.lid_clip_ear.proofs.notes.failed.Tie as tie
 

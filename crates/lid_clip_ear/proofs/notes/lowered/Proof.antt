@@ -1,7 +1,7 @@
 -- `lid_clip_ear::notes::lowered` meets its contract. Assumes nothing.
 use borrow.Author.Needs.{needs}
 use borrow.Author.Tests.{lt-ltb, le-ltb}
-use Rattle.lid_clip_ear.specs.Notes.{down}
+use Rattle.lid_clip_ear.specs.Contract.Notes.{down}
 use Rattle.lid_clip_ear.proofs.notes.lowered.Statement.{statement}
 use Rattle.lid_clip_ear.proofs.notes.lowered.Tie as tie
 

@@ -4,7 +4,7 @@ use native.Mathlib.Omega.{arith}
 use lib.ListN.{length}
 use borrow.Author.Needs.{needs}
 use Rattle.lid_clip_ear.proofs.NoteLaws.{Sweep, sweep-start, sweep-again, sweep-map}
-use Rattle.lid_clip_ear.specs.Notes.{movedBy}
+use Rattle.lid_clip_ear.specs.Contract.Notes.{movedBy}
 use Rattle.lid_clip_ear.proofs.notes.shift_all.Statement.{statement}
 use Rattle.lid_clip_ear.proofs.notes.shift_all.Tie as tie
 

@@ -6,7 +6,7 @@ use native.Mathlib.Omega.{arith}
 use lib.ListN.{length, take, drop, length-set}
 use borrow.Author.Needs.{needs}
 use Rattle.lid_clip_ear.proofs.NoteLaws.{behind-step, behind-end}
-use Rattle.lid_clip_ear.specs.Notes.{movedBy}
+use Rattle.lid_clip_ear.specs.Contract.Notes.{movedBy}
 use Rattle.lid_clip_ear.proofs.notes.shift_behind.Statement.{statement}
 use Rattle.lid_clip_ear.proofs.notes.shift_behind.Tie as tie
 use denote.Ref.{now}

@@ -1,7 +1,7 @@
 -- `lid_clip_ear::notes::unmoved` meets its contract. Assumes nothing.
 use borrow.Author.Needs.{needs}
 use borrow.Author.Tests.{lt-ltb, le-ltb}
-use Rattle.lid_clip_ear.specs.Notes.{capped}
+use Rattle.lid_clip_ear.specs.Contract.Notes.{capped}
 use Rattle.lid_clip_ear.proofs.notes.unmoved.Statement.{statement}
 use Rattle.lid_clip_ear.proofs.notes.unmoved.Tie as tie
 

@@ -6,7 +6,7 @@ use native.Mathlib.Omega.{arith}
 use lib.ListN.{length, take, drop}
 use borrow.Author.Needs.{needs}
 use Rattle.lid_hole.proofs.PutLaws.{place-here, place-next, place-end}
-use Rattle.lid_hole.specs.Order.{insertBy}
+use Rattle.lid_hole.specs.Contract.Order.{insertBy}
 use Rattle.lid.specs.Rings.{right}
 use Rattle.lid_hole.proofs.order.find_place.Statement.{statement}
 use Rattle.lid_hole.proofs.order.find_place.Tie as tie

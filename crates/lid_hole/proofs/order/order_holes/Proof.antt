@@ -4,7 +4,7 @@ use Prim.Native.Nat.{_≤_, _-_}
 use native.Mathlib.Omega.{arith}
 use lib.ListN.{length, take}
 use lib.Seq.{length-take-le}
-use Rattle.lid_hole.specs.Order.{orderOf, orderStep}
+use Rattle.lid_hole.specs.Contract.Order.{orderOf, orderStep}
 use Rattle.lists.proofs.Loops.{loop-start, loop-next, loop-end}
 use Rattle.lists.specs.Loops.{loop}
 use Rattle.lid_hole.proofs.order.order_holes.Statement.{statement}

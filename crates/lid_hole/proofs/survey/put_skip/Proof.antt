@@ -3,7 +3,7 @@ use mathlib.Core.Path.{refl, sym}
 use Prim.Native.Nat.{_-_}
 use native.Mathlib.Nat.{add-zero}
 use borrow.Author.Needs.{needs}
-use Rattle.lid_hole.specs.Holes.{skips}
+use Rattle.lid_hole.specs.Contract.Holes.{skips}
 use Rattle.lid.specs.Log.{logNumbers}
 use Rattle.lists.specs.Loops.{join}
 use Rattle.lid_hole.proofs.survey.put_skip.Statement.{statement}

@@ -9,9 +9,10 @@ use lib.ListN.{length, take, length-set}
 use Rattle.lid_hole.proofs.HoleLaws.{count-low}
 use Rattle.lid_hole.proofs.SurveyLaws.{list-put, list-put-end, in-room, skips-low, skips-count, skips-log, skips-end}
 use Rattle.lid_log.proofs.RecordLaws.{log-end}
-use Rattle.lid_hole.specs.Holes.{holeCorners, rightsOf, smallOf, skips}
-use Rattle.lid.specs.Rings.{flats, tooSmall, right, turnHole}
-use Rattle.lid.specs.Written.{logWith}
+use Rattle.lid_hole.specs.Contract.Holes.{holeCorners, rightsOf, smallOf, skips}
+use Rattle.lid.specs.Rings.{tooSmall, right, turnHole}
+use Rattle.lid.specs.Contract.Rings.{flats}
+use Rattle.lid.specs.Contract.Written.{logWith}
 use Rattle.lists.specs.Loops.{list}
 use Rattle.lid_hole.proofs.survey.survey.Statement.{statement}
 use Rattle.lid_hole.proofs.survey.survey.Tie as tie

@@ -2,7 +2,7 @@
 use mathlib.Core.Path.{_≡_, _∙_}
 use Prim.Native.Nat.{_-_}
 use Rattle.lid_plane.specs.Plane.{lidSide}
-use Rattle.lid_plane.specs.Steps.{lidNormalFrom}
+use Rattle.lid_plane.specs.Contract.Steps.{lidNormalFrom}
 use Rattle.lid_plane.proofs.normal.lid_normal_from.Statement.{statement}
 use Rattle.lid_plane.proofs.normal.lid_normal_from.Tie as tie
 

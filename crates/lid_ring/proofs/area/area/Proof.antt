@@ -3,7 +3,8 @@ use mathlib.Core.Path.{_≡_}
 use Prim.Native.Nat.{_≤_, _-_}
 use native.Mathlib.Omega.{arith}
 use lib.ListN.{length}
-use Rattle.lid.specs.Rings.{flats, areaStep, area}
+use Rattle.lid.specs.Rings.{areaStep, area}
+use Rattle.lid.specs.Contract.Rings.{flats}
 use Rattle.lists.proofs.Loops.{loop-start, loop-next, loop-end}
 use Rattle.lists.specs.Loops.{loop}
 use Rattle.lid_ring.proofs.area.area.Statement.{statement}

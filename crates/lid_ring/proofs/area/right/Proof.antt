@@ -5,7 +5,8 @@ use native.Mathlib.Omega.{arith}
 use lib.Ieee.{nanBits}
 use lib.ListN.{length, drop}
 use Rattle.lid_ring.proofs.FoldLaws.{fold-next, fold-end}
-use Rattle.lid.specs.Rings.{flats, rightStep, right}
+use Rattle.lid.specs.Rings.{rightStep, right}
+use Rattle.lid.specs.Contract.Rings.{flats}
 use Rattle.lists.specs.Loops.{fold}
 use Rattle.lid_ring.proofs.area.right.Statement.{statement}
 use Rattle.lid_ring.proofs.area.right.Tie as tie

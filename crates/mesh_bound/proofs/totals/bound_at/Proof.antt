@@ -2,7 +2,7 @@
 use mathlib.Core.Path.{refl}
 use borrow.Author.Needs.{needs}
 use borrow.Author.Tests.{not-true, not-false}
-use Rattle.mesh_bound.specs.Most.{countedBy, boundIn}
+use Rattle.mesh_bound.specs.Contract.Most.{countedBy, boundIn}
 use Rattle.mesh_bound.proofs.totals.bound_at.Statement.{statement}
 use Rattle.mesh_bound.proofs.totals.bound_at.Tie as tie
 

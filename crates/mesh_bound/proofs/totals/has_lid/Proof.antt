@@ -5,8 +5,8 @@ use mathlib.Core.List.{List}
 use Prim.Native.Nat.{ℕ}
 use borrow.Author.Needs.{needs}
 use Rattle.scene.specs.declared.headers.Body.the-variants.{Sweep}
-use Rattle.scene.specs.Headers.{shapeOf}
-use Rattle.mesh_bound.specs.Most.{hasLid}
+use Rattle.scene.specs.Contract.Headers.{shapeOf}
+use Rattle.mesh_bound.specs.Contract.Most.{hasLid}
 use Rattle.mesh_bound.proofs.totals.has_lid.Statement.{statement}
 use Rattle.mesh_bound.proofs.totals.has_lid.Tie as tie
 

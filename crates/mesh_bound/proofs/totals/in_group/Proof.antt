@@ -2,7 +2,7 @@
 use mathlib.Core.Path.{ap}
 use mathlib.Core.Bool.{not}
 use borrow.Author.Needs.{needs}
-use Rattle.mesh_bound.specs.Most.{inGroup}
+use Rattle.mesh_bound.specs.Contract.Most.{inGroup}
 use Rattle.mesh_bound.proofs.totals.in_group.Statement.{statement}
 use Rattle.mesh_bound.proofs.totals.in_group.Tie as tie
 

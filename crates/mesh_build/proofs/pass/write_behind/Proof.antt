@@ -2,7 +2,7 @@
 use mathlib.Core.Path.{_≡_, refl, ap, subst}
 use Prim.Native.Nat.{ℕ, _+_, _-_, _<_, _≤_}
 use native.Mathlib.Omega.{arith}
-use Rattle.mesh_progress.specs.Pass.{drawnInto}
+use Rattle.mesh_progress.specs.Contract.Pass.{drawnInto}
 use Rattle.mesh_progress.proofs.Pass.Walks.{Walks, begunAt, walks-start, end-fits, can-add, one-more, walks-next, walks-end}
 use Rattle.mesh.specs.PerBuffer.{Counts}
 use Rattle.mesh.specs.Operations.{countsOf}

@@ -1,9 +1,9 @@
 -- `mesh_measure::room::bound_counts` meets its contract. Assumes nothing.
 use mathlib.Core.Path.{ap, sym, subst, _∙_}
 use borrow.Author.Needs.{needs}
-use Rattle.mesh.specs.PerBuffer.{FitCounts}
+use Rattle.mesh.specs.Contract.PerBuffer.{FitCounts}
 use Rattle.mesh_bound.specs.declared.Most.{Most}
-use Rattle.mesh_bound.specs.Most.{numbersOf}
+use Rattle.mesh_bound.specs.Contract.Most.{numbersOf}
 use Rattle.mesh_bound.proofs.Few.{few-together, few-fit}
 use Rattle.mesh_measure.proofs.room.bound_counts.Statement.{statement}
 use Rattle.mesh_measure.proofs.room.bound_counts.Tie as tie

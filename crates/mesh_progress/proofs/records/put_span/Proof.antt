@@ -5,7 +5,7 @@ use borrow.Author.Tests.{eq-eqb, ne-eqb}
 use Rattle.lists.specs.Loops.{join}
 use Rattle.mesh_progress.proofs.Pass.Tails.{sets-fifth}
 use Rattle.mesh.specs.Mesh.{spanNumbers}
-use Rattle.mesh_progress.specs.Pass.{spanBy}
+use Rattle.mesh_progress.specs.Contract.Pass.{spanBy}
 use Rattle.mesh_progress.proofs.records.put_span.Statement.{statement}
 use Rattle.mesh_progress.proofs.records.put_span.Tie as tie
 

@@ -3,7 +3,7 @@ use mathlib.Core.Path.{ap}
 use Prim.Native.Nat.{_+_, _*_}
 use borrow.Author.Needs.{needs}
 use Rattle.scene.proofs.RecordLaws.{corners-many}
-use Rattle.scene.specs.Answers.{endOf}
+use Rattle.scene.specs.Contract.Answers.{endOf}
 use Rattle.scene_field.specs.Fields.{countsAt}
 use Rattle.scene_check.proofs.NumberLaws.{corners-rest}
 use Rattle.scene_check.proofs.record.check_corners.Statement.{statement}

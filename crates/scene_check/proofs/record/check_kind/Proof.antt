@@ -5,7 +5,7 @@ use borrow.Author.Needs.{needs}
 use Rattle.object.specs.Object.{sweep, roundSweep}
 use Rattle.object.specs.declared.Extent.the-variants.{Unsized}
 use Rattle.scene.proofs.RecordLaws.{kind-other}
-use Rattle.scene.specs.Answers.{endOf}
+use Rattle.scene.specs.Contract.Answers.{endOf}
 use Rattle.scene_field.specs.Layout.{sizesFrom}
 use Rattle.scene_field.specs.Fields.{boxAt, cylinderAt}
 use Rattle.scene.specs.Scene.{kindAt}

@@ -4,7 +4,7 @@ use Prim.Native.Nat.{_*_}
 use borrow.Author.Needs.{needs}
 use borrow.Author.Tests.{not-true, not-false}
 use Rattle.scene_field.specs.Fields.{all32}
-use Rattle.scene.specs.Answers.{endOf}
+use Rattle.scene.specs.Contract.Answers.{endOf}
 use Rattle.scene_check.proofs.NumberLaws.{rest-past, rest-numbers, rest-good}
 use Rattle.scene_check.proofs.record.check_numbers.Statement.{statement}
 use Rattle.scene_check.proofs.record.check_numbers.Tie as tie

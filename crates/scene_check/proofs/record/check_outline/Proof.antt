@@ -2,7 +2,7 @@
 use mathlib.Core.Path.{ap}
 use borrow.Author.Needs.{needs}
 use Rattle.scene.proofs.RecordLaws.{outline-past, outline-many, outline-counts, outline-corners}
-use Rattle.scene.specs.Answers.{endOf}
+use Rattle.scene.specs.Contract.Answers.{endOf}
 use Rattle.scene_check.proofs.record.check_outline.Statement.{statement}
 use Rattle.scene_check.proofs.record.check_outline.Tie as tie
 

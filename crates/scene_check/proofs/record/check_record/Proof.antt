@@ -3,7 +3,7 @@ use mathlib.Core.Path.{ap, _∙_}
 use native.Mathlib.Omega.{arith}
 use borrow.Author.Needs.{needs}
 use Rattle.scene.proofs.RecordLaws.{record-past, record-begun}
-use Rattle.scene.specs.Answers.{endOf}
+use Rattle.scene.specs.Contract.Answers.{endOf}
 use Rattle.scene_check.proofs.record.check_record.Statement.{statement}
 use Rattle.scene_check.proofs.record.check_record.Tie as tie
 

@@ -6,7 +6,7 @@ use borrow.Author.Tests.{not-true, not-false}
 use Rattle.scene_field.specs.Layout.{orientationFrom, sizesFrom}
 use Rattle.scene_field.specs.Fields.{all32, all64}
 use Rattle.scene.proofs.RecordLaws.{solid-past}
-use Rattle.scene.specs.Answers.{endOf}
+use Rattle.scene.specs.Contract.Answers.{endOf}
 use Rattle.scene_check.proofs.NumberLaws.{solid-numbers, solid-allowed}
 use Rattle.scene_check.proofs.record.check_solid.Statement.{statement}
 use Rattle.scene_check.proofs.record.check_solid.Tie as tie

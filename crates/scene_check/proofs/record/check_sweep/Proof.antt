@@ -2,7 +2,7 @@
 use mathlib.Core.Path.{ap}
 use borrow.Author.Needs.{needs}
 use Rattle.scene.proofs.RecordLaws.{sweep-past, sweep-many}
-use Rattle.scene.specs.Answers.{endOf}
+use Rattle.scene.specs.Contract.Answers.{endOf}
 use Rattle.scene_check.proofs.NumberLaws.{sweep-rest}
 use Rattle.scene_check.proofs.record.check_sweep.Statement.{statement}
 use Rattle.scene_check.proofs.record.check_sweep.Tie as tie

@@ -5,7 +5,7 @@ use native.Mathlib.Omega.{arith}
 use Rattle.coords_vector.specs.declared.Vector.{Vector}
 use Rattle.lid_plane.proofs.AboutLaws.{about-from}
 use Rattle.lid_plane.specs.Plane.{areaNormal}
-use Rattle.lid_plane.specs.Steps.{aboutFrom}
+use Rattle.lid_plane.specs.Contract.Steps.{aboutFrom}
 use Rattle.scene_field.specs.Fields.{cornersAt}
 use Rattle.shape_outline_corners.proofs.CornerLaws.{bases-points}
 use Rattle.shape_outline_corners.proofs.normal.about.Statement.{statement}

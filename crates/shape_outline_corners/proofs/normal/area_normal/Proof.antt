@@ -5,12 +5,12 @@ use native.Mathlib.Omega.{arith}
 use Rattle.coords.specs.declared.Point.{Point}
 use Rattle.scene_field.specs.Fields.{pointAt}
 use Rattle.lid_plane.specs.Plane.{areaNormalStep, areaNormal}
-use Rattle.lid_plane.specs.Steps.{areaNormalAt}
+use Rattle.lid_plane.specs.Contract.Steps.{areaNormalAt}
 use Rattle.lists.proofs.Loops.{loop-next, loop-end}
 use Rattle.lists.proofs.Places.{next-inside}
 use Rattle.lists.specs.Loops.{list, loop}
 use Rattle.shape_outline_corners.proofs.AreaLaws.{area-at, area-start}
-use Rattle.shape_outline_corners.specs.Outlines.{pointsAt}
+use Rattle.shape_outline_corners.specs.Contract.Outlines.{pointsAt}
 use Rattle.shape_outline_corners.proofs.normal.area_normal.Statement.{statement}
 use Rattle.shape_outline_corners.proofs.normal.area_normal.Tie as tie
 

@@ -11,9 +11,9 @@ use Rattle.coords_vector.specs.Vectors.{zeroV}
 use Rattle.object.specs.declared.Corner.{Corner}
 use Rattle.scene_field.specs.Fields.{cornerAt, cornersAt}
 use Rattle.lid_plane.specs.Plane.{topsOf, areaNormalStep, areaNormal, riseStep, rise, lidNormal}
-use Rattle.lid_plane.specs.Steps.{lidNormalFrom}
+use Rattle.lid_plane.specs.Contract.Steps.{lidNormalFrom}
 use Rattle.lid_plane.proofs.PlaneLaws.{normal-from}
-use Rattle.shape_outline_corners.specs.Outlines.{pointsAt}
+use Rattle.shape_outline_corners.specs.Contract.Outlines.{pointsAt}
 use Rattle.shape_outline_corners.proofs.CornerLaws.{tops-points}
 use Rattle.shape_outline_corners.proofs.AreaLaws.{area-start, tops-at}
 use Rattle.shape_outline_corners.proofs.normal.lid_normal.Statement.{statement}

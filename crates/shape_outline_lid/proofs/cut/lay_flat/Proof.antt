@@ -4,7 +4,7 @@ use Prim.Native.Nat.{ℕ, _≤_, _+_, _-_, _*_}
 use native.Mathlib.Omega.{arith}
 use lib.ListN.{length, length-set, take, drop}
 use Rattle.coords.specs.declared.Point.{Point}
-use Rattle.lid_plane.specs.Steps.{flatOn}
+use Rattle.lid_plane.specs.Contract.Steps.{flatOn}
 use Rattle.lid.specs.declared.Flat.{Flat}
 use Rattle.lists.specs.Loops.{list}
 use Rattle.scene_field.specs.Fields.{pointAt}

@@ -6,7 +6,7 @@ use native.Mathlib.Nat.{zero-add}
 use native.Mathlib.Omega.{arith}
 use lib.Seq.{length-take-le}
 use Rattle.shape_outline_lid.proofs.LidLaws.{triangles-drawn, few-triangles, lid-asks}
-use Rattle.shape_outline_corners.specs.Outlines.{lidIn}
+use Rattle.shape_outline_corners.specs.Contract.Outlines.{lidIn}
 use Rattle.shape_outline_lid.proofs.faces.cap_in.Statement.{statement}
 use Rattle.shape_outline_lid.proofs.faces.cap_in.Tie as tie
 

@@ -4,12 +4,12 @@ use Prim.Native.Nat.{_+_, _-_, _/_}
 use native.Mathlib.Omega.{arith}
 use lib.ListN.{length}
 use lib.Seq.{length-take-le}
-use Rattle.face_triangle.specs.Triangles.{trianglesIn}
+use Rattle.face_triangle.specs.Contract.Triangles.{trianglesIn}
 use Rattle.face.proofs.Draws.{countable-less}
 use Rattle.face_draw.proofs.OneFace.{length-triangles}
 use Rattle.shape_outline_corners.proofs.CornerLaws.{bases-points, tops-points, points-length}
 use Rattle.shape_outline_lid.proofs.LidLaws.{points-drawn, face-asks, face-countable}
-use Rattle.shape.specs.Stages.{lidFace, floorFaces}
+use Rattle.shape.specs.Contract.Stages.{lidFace, floorFaces}
 use Rattle.shape.proofs.Stages.{stages-none, stages-first, stages-empty}
 use Rattle.shape_outline_lid.proofs.faces.lid_faces.Statement.{statement}
 use Rattle.shape_outline_lid.proofs.faces.lid_faces.Tie as tie

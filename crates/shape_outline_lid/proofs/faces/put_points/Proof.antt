@@ -10,7 +10,7 @@ use Rattle.coords.specs.Buffers.{vertexRecord, vertexNumbers}
 use Rattle.lists.proofs.Stores.{store-start, store-next, store-end}
 use Rattle.lists.specs.Loops.{list, join}
 use Rattle.scene_field.specs.Fields.{pointAt}
-use Rattle.shape_outline_corners.specs.Outlines.{pointsAt}
+use Rattle.shape_outline_corners.specs.Contract.Outlines.{pointsAt}
 use Rattle.shape_outline_lid.proofs.faces.put_points.Statement.{statement}
 use Rattle.shape_outline_lid.proofs.faces.put_points.Tie as tie
 

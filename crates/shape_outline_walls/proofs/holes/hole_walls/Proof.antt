@@ -5,7 +5,7 @@ use native.Mathlib.Omega.{arith}
 use native.Mathlib.Nat.{le-refl}
 use lib.ListN.{length}
 use borrow.Author.Needs.{needs}
-use Rattle.face.specs.Drawing.{drawing, drawn, Countable}
+use Rattle.face.specs.Contract.Drawing.{drawing, drawn, Countable}
 use Rattle.lists.specs.Loops.{join}
 use Rattle.scene_field.specs.Fields.{u16At, countsAt, holesAt}
 use Rattle.face.proofs.Draws.{countable-less}

@@ -4,10 +4,10 @@ use Prim.Native.Nat.{_-_, _*_, _≤_}
 use native.Mathlib.Omega.{arith}
 use lib.ListN.{length}
 use Rattle.lists.specs.Loops.{list}
-use Rattle.face.specs.Drawing.{drawing, Drew, Countable}
+use Rattle.face.specs.Contract.Drawing.{drawing, Drew, Countable}
 use Rattle.face.proofs.Draws.{drew-none, drew-vertices, drew-normals, drew-indices, countable-less}
 use Rattle.shape.specs.Shapes.{tubeSide, tubeFaces}
-use Rattle.shape_round_sweep.specs.Rings.{ringAbout}
+use Rattle.shape_round_sweep.specs.Contract.Rings.{ringAbout}
 use Rattle.shape_round_sweep.proofs.RingFaces.{side-drawn}
 use Rattle.shape_round_sweep.proofs.ellipses.tube.Statement.{statement}
 use Rattle.shape_round_sweep.proofs.ellipses.tube.Tie as tie

@@ -1,0 +1,34 @@
+-- What the text is written from: the mesh's counts, whether the verdict is ok, and the account. Definitions only.
+use mathlib.Core.Path.{_≡_}
+use Prim.Native.Nat.{ℕ, _/_}
+use mathlib.Core.List.{List}
+use lib.ListN.{length}
+use Rattle.float.specs.Number.{minArea}
+use Rattle.object.specs.Object.{Object}
+use Rattle.scene.specs.Scene.{scene, accepted}
+use Rattle.validate.specs.declared.Validation.{Validation}
+use Rattle.mesh.specs.Mesh.{meshOf, spanWidth, accountWidth}
+use Rattle.mesh.specs.Operations.{Answer, measure}
+use Rattle.quote_lines.specs.Lines.{isOk}
+use Rattle.quote_text.specs.Quote.{validation}
+use Rattle.quote_objects.specs.Contract.Accounts.{Accounts}
+use Rattle.quote_summary.specs.declared.Summary.{Summary}
+
+abbrev pub summaryOf : Answer → Validation → Summary
+summaryOf a v =
+    let c = a .counts in
+    record { refusal = a .number; objects = c .account / accountWidth; vertices = c .vertices / 3; indices = c .indices; spans = c .spans / spanWidth; ok = isOk v }
+
+-- of the objects of an accepted scene
+pub record SummedUp (os : List Object) (m : Summary) (numbers : List ℕ) : Type 0 where
+  pub objects : m .objects ≡ length os
+  pub vertices : m .vertices ≡ length (meshOf minArea os .vertices)
+  pub indices : m .indices ≡ length (meshOf minArea os .indices)
+  pub spans : m .spans ≡ length (meshOf minArea os .spans)
+  pub ok : m .ok ≡ isOk (validation (meshOf minArea os))
+  pub account : Accounts os numbers
+
+-- of any scene
+pub record Summed (s : List ℕ) (m : Summary) (numbers : List ℕ) : Type 0 where
+  pub refusal : m .refusal ≡ measure s .number
+  pub up : (os : List Object) → scene s ≡ accepted os → SummedUp os m numbers

@@ -1,2 +1,0 @@
-// Stored scenes that are refused, with document 01's answers, computed on the definitions: see specs/
-// and proofs/.
