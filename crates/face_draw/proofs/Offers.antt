@@ -1,4 +1,4 @@
--- The triangles of a face offered one after the other: what they come to is what specs/Faces.antt says of the whole list. Assumes nothing.
+-- The triangles of a face offered one after the other: what they come to is what crates/face/specs/Faces.antt says of the whole list. Assumes nothing.
 use mathlib.Core.Path.{_≡_, refl, sym, ap, _∙_}
 use Prim.Native.Nat.{ℕ, suc, _+_, _*_}
 use native.Mathlib.Nat.{add-zero}

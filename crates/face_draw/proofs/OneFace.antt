@@ -1,4 +1,4 @@
--- One face drawn: what its triangles came to, and its points stored, are what specs/Faces.antt writes of it. Assumes nothing.
+-- One face drawn: what its triangles came to, and its points stored, are what crates/face/specs/Faces.antt writes of it. Assumes nothing.
 use mathlib.Core.Path.{_≡_, refl, sym, ap, ap₂, subst, _∙_}
 use Prim.Native.Nat.{ℕ, _+_, _*_, _/_}
 use native.Mathlib.Nat.{add-zero, zero-add}

@@ -46,7 +46,7 @@ fn plan_bounds(has: Lengths, others: Most, lids: Most, n: u32) -> Plan
 
 // The n objects of an accepted scene: by the most that they can come to, then with those without
 // lids measured, which takes drawing but no cutting, then with all measured, which is exact and
-// so tells the refusal too. No object is drawn twice for it.
+// so tells the refusal too. No object is drawn twice for the plan; writing then draws it again.
 fn plan_objects(s: &[u8], n: u32, limit: f32, has: Lengths) -> Plan
     requires { ⌜ Accepted n ≡ checkedOf (scene (now s)) ⌝ }
     ensures { λ r. ⌜ PlanHolds limit (now (s .entry)) (lengthsFrom has) r ⌝ }

@@ -87,8 +87,8 @@ fn cylinder_sides(
     u
 }
 
-// An upright cylinder centred on the origin and rising from it; without a floor where it has no
-// height. What was written and counted after its sides, the end at its height and the other end.
+// An upright cylinder centred on the origin and rising from it; without a floor unless its height is
+// above 0. What was written and counted after its sides, the end at its height and the other end.
 pub fn cylinder(
     origin: Point,
     turn: Orientation,

@@ -1,4 +1,4 @@
--- `float_narrow::finite_bits` meets its contract, by the cases of proofs/Narrowing.antt. Assumes nothing.
+-- `float_narrow::finite_bits` meets its contract, by the cases of crates/float/proofs/Narrowing.antt. Assumes nothing.
 use borrow.Author.Needs.{needs}
 use mathlib.Core.Path.{_≡_, refl, ap, _∙_}
 use Prim.Native.Nat.{ℕ, _+_, _-_, _*_, _%_, _^_, _≤_, _<_, zero-le}

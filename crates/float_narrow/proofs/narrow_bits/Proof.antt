@@ -1,4 +1,4 @@
--- `float_narrow::narrow_bits` meets its contract: within the range by `narrows-pattern` of proofs/Narrowing.antt, and beyond it by `other_bits`. Assumes nothing.
+-- `float_narrow::narrow_bits` meets its contract: within the range by `narrows-pattern` of crates/float/proofs/Narrowing.antt, and beyond it by `other_bits`. Assumes nothing.
 use borrow.Author.Needs.{needs}
 use mathlib.Core.Path.{_≡_, refl, sym, subst}
 use Prim.Native.Nat.{ℕ, _%_, _^_, _≤_, _<_}

@@ -1,4 +1,4 @@
--- A ring of points held beside its centre, as an ellipse of specs/Shapes.antt. Definitions only.
+-- A ring of points held beside its centre, as an ellipse of crates/shape/specs/Shapes.antt. Definitions only.
 use mathlib.Core.List.{List}
 use Rattle.coords.specs.declared.Point.{Point}
 use Rattle.shape.specs.Shapes.{Ellipse}
