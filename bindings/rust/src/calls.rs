@@ -1,5 +1,7 @@
-//! The library's functions, as include/object_mesh.h declares them. A slice's pointer is never null.
+//! The library's functions, as include/object_mesh.h declares them, each called in the mode that it
+//! needs. A slice's pointer is never null.
 
+use crate::mode::in_default_mode;
 use crate::{Counts, Refusal, Verdict};
 
 #[repr(C)]
@@ -64,7 +66,9 @@ fn counted(answer: Answer) -> Result<Counts, Refusal> {
 }
 
 pub fn measure(scene: &[u8]) -> Result<Counts, Refusal> {
-    counted(unsafe { object_mesh_measure(scene.as_ptr(), scene.len()) })
+    counted(in_default_mode(|| unsafe {
+        object_mesh_measure(scene.as_ptr(), scene.len())
+    }))
 }
 
 pub fn build(
@@ -76,7 +80,7 @@ pub fn build(
     account: &mut [u32],
     log: &mut [u32],
 ) -> Result<Counts, Refusal> {
-    counted(unsafe {
+    counted(in_default_mode(|| unsafe {
         object_mesh_build(
             scene.as_ptr(),
             scene.len(),
@@ -93,18 +97,18 @@ pub fn build(
             log.as_mut_ptr(),
             log.len(),
         )
-    })
+    }))
 }
 
 pub fn validate(vertices: &[f32], indices: &[u32]) -> Result<Verdict, Refusal> {
-    let j = unsafe {
+    let j = in_default_mode(|| unsafe {
         object_mesh_validate(
             vertices.as_ptr(),
             vertices.len(),
             indices.as_ptr(),
             indices.len(),
         )
-    };
+    });
     if j.refusal != 0 {
         return Err(Refusal {
             number: j.refusal,

@@ -1,7 +1,12 @@
 //! Triangles of the objects along a road, with an account of each: a safe wrapper of the proved
 //! library. include/object_mesh.h documents the scene bytes and every number.
+//!
+//! Any thread may call, several at once. Each call runs in the default floating-point mode and
+//! leaves the caller's as it was, so the answers are the same where a host flushes subnormal
+//! numbers, rounds otherwise or traps.
 
 mod calls;
+mod mode;
 mod refusal;
 
 pub use refusal::Refusal;
