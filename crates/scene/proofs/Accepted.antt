@@ -1,6 +1,7 @@
 -- The numbers of an accepted scene are within bounds. Assumes nothing.
 use mathlib.Core.Path.{_≡_, sym, subst}
 use Prim.Native.Nat.{ℕ, zero, suc, _+_, _*_, _≤_, _<_, zero-le}
+use native.Mathlib.Nat.{mul-le-mul-left}
 use native.Mathlib.Omega.{arith}
 use mathlib.Core.Bool.{Bool, true, false, _&&_, _||_}
 use mathlib.Core.List.{List, [], _∷_}
@@ -8,7 +9,7 @@ use lib.ListN.{length, getD}
 use lib.Dec.{T, ltb, eqb, nltb→le}
 use lib.Ieee.Fits.{and-l, and-r}
 use Rattle.lists.specs.Each.{Each}
-use Rattle.lists.specs.Loops.{sumOf}
+use Rattle.lists.specs.Loops.{list, sumOf}
 use Rattle.float.specs.Number.{allowed32, allowed64}
 use Rattle.object.specs.declared.Extent.{Extent}
 use Rattle.object.specs.declared.Extent.the-variants.{Unsized}
@@ -61,42 +62,38 @@ module _ (s : List ℕ) where
   unfolding sectionAt
   section-near i b = record { left = corner-near i (λ k j h e. b k j (omega arith) e); right = corner-near (i + 24) (part i 12 6 6 b (omega arith)) }
 
+  -- n of them, w numbers each, one behind the other
+  run-near : {A : Type 0} (P : A → Type 0) (read : ℕ → A) (w : ℕ) → ((i : ℕ) → Block i w → P (read i)) → (n i : ℕ) → Block i (w * n) → Each P (list (λ k. read (i + 4 * w * k)) n 0)
+  run-near P read w near n i b = each-list P (λ k. read (i + 4 * w * k)) n 0 (λ k a h. near (i + 4 * w * k) (λ c j g e. b (w * k + c) j (inside w k c n h g) (moved w i k c j e)))
+    where
+      inside : (w k c n : ℕ) → k < 0 + n → c < w → w * k + c < w * n
+      inside w k c n h g = omega (arith, mul-le-mul-left w h)
+
+      moved : (w i k c j : ℕ) → j ≡ i + 4 * w * k + 4 * c → j ≡ i + 4 * (w * k + c)
+      moved w i k c j e = omega arith
+
   corners-near : (n i : ℕ) → Block i (6 * n) → Each (NearC 1 24) (cornersAt s n i)
   unfolding cornersAt
-  corners-near n i b = each-list (NearC 1 24) (λ k. cornerAt s (i + 24 * k)) n 0 (λ k a h. corner-near (i + 24 * k) (λ c j g e. b (6 * k + c) j (inside k c n h g) (moved i k c j e)))
-    where
-      inside : (k c n : ℕ) → k < 0 + n → c < 6 → 6 * k + c < 6 * n
-      inside k c n h g = omega arith
-
-      moved : (i k c j : ℕ) → j ≡ i + 24 * k + 4 * c → j ≡ i + 4 * (6 * k + c)
-      moved i k c j e = omega arith
+  corners-near n i b = run-near (NearC 1 24) (cornerAt s) 6 corner-near n i b
 
   sections-near : (n i : ℕ) → Block i (12 * n) → Each (NearS 1 24) (sectionsAt s n i)
   unfolding sectionsAt
-  sections-near n i b = each-list (NearS 1 24) (λ k. sectionAt s (i + 48 * k)) n 0 (λ k a h. section-near (i + 48 * k) (λ c j g e. b (12 * k + c) j (inside k c n h g) (moved i k c j e)))
-    where
-      inside : (k c n : ℕ) → k < 0 + n → c < 12 → 12 * k + c < 12 * n
-      inside k c n h g = omega arith
+  sections-near n i b = run-near (NearS 1 24) (sectionAt s) 12 section-near n i b
 
-      moved : (i k c j : ℕ) → j ≡ i + 48 * k + 4 * c → j ≡ i + 4 * (12 * k + c)
-      moved i k c j e = omega arith
+  -- c corners, and n behind them
+  first-corners : (i c n : ℕ) → Block i (6 * (c + n)) → Block i (6 * c)
+  first-corners i c n b k j h e = b k j (omega arith) e
+
+  later-corners : (i c n : ℕ) → Block i (6 * (c + n)) → Block (i + 24 * c) (6 * n)
+  later-corners i c n b k j h e = b (6 * c + k) j (omega arith) (omega arith)
 
   holes-near : (counts : List ℕ) (i : ℕ) → Block i (6 * sumOf (λ k. k) counts) → Each (Each (NearC 1 24)) (holesAt s counts i)
   unfolding holesAt sumOf
   holes-near [] i b = tt
   holes-near (c ∷ cs) i b = (
-    corners-near c i (λ k j h e. b k j (inside k c (sumOf (λ k. k) cs) h) e),
-    holes-near cs (i + 24 * c) (λ k j h e. b (6 * c + k) j (beyond k c (sumOf (λ k. k) cs) h) (moved i c k j e)),
+    corners-near c i (first-corners i c (sumOf (λ k. k) cs) b),
+    holes-near cs (i + 24 * c) (later-corners i c (sumOf (λ k. k) cs) b),
   )
-    where
-      inside : (k c n : ℕ) → k < 6 * c → k < 6 * (c + n)
-      inside k c n h = omega arith
-
-      beyond : (k c n : ℕ) → k < 6 * n → 6 * c + k < 6 * (c + n)
-      beyond k c n h = omega arith
-
-      moved : (i c k j : ℕ) → j ≡ i + 24 * c + 4 * k → j ≡ i + 4 * (6 * c + k)
-      moved i c k j e = omega arith
 
   turn-near : (i : ℕ) → T (all64 s 6 i) → Paired (orientationAt s i)
   unfolding orientationAt pairAt
@@ -134,24 +131,16 @@ module _ (s : List ℕ) where
   outline-corners-near : (e id : ℕ) (closed : Bool) (c : ℕ) (counts : List ℕ) (i : ℕ) → NearRecord (outlineCorners s e id closed c counts i)
   unfolding outlineCorners
   outline-corners-near e id closed c counts i =
-      let n = c + sumOf (λ k. k) counts in
+      let m = sumOf (λ k. k) counts in
+      let n = c + m in
       unless NearRecord (ltb mostCorners n) {x = bad Counts} tt
       (λ few. rest-near e i (cornerBytes * n) (all32 s (6 * n) i) _
       (λ t.
       let b = block (6 * n) i t in (
-        corners-near c i (λ k j h q. b k j (inside k c (sumOf (λ k. k) counts) h) q),
-        holes-near counts (i + 24 * c) (λ k j h q. b (6 * c + k) j (beyond k c (sumOf (λ k. k) counts) h) (moved i c k j q)),
-        subst (λ (m : ℕ). m ≤ mostCorners) (sym (corners-count s c i counts (i + 24 * c))) (nltb→le mostCorners n few),
+        corners-near c i (first-corners i c m b),
+        holes-near counts (i + 24 * c) (later-corners i c m b),
+        subst (λ (k : ℕ). k ≤ mostCorners) (sym (corners-count s c i counts (i + 24 * c))) (nltb→le mostCorners n few),
       )))
-    where
-      inside : (k c n : ℕ) → k < 6 * c → k < 6 * (c + n)
-      inside k c n h = omega arith
-
-      beyond : (k c n : ℕ) → k < 6 * n → 6 * c + k < 6 * (c + n)
-      beyond k c n h = omega arith
-
-      moved : (i c k j : ℕ) → j ≡ i + 24 * c + 4 * k → j ≡ i + 4 * (6 * c + k)
-      moved i c k j e = omega arith
 
   outline-near : (e id : ℕ) (closed : Bool) (i : ℕ) → NearRecord (outlineAt s e id closed i)
   unfolding outlineAt
