@@ -1,8 +1,10 @@
-// The thin test: whether a vector is shorter than the limit, told by its square, for every value.
+// The thin test: whether a vector, or a triangle's cross product, is shorter than the limit, told by its square, for every value.
 ghost use mathlib.Core.Path.{_≡_};
 ghost use lib.Ieee.{lt};
 ghost use Rattle.float.specs.Contract.Thin.{thinBound};
 ghost use Rattle.coords_vector.specs.Vectors.{norm};
+ghost use Rattle.coords.specs.Coords.{noArea};
+use crate::Point;
 use coords_vector::Vector;
 
 // The square of the middle between the limit and the f32 before it: a number's root is below the
@@ -30,4 +32,11 @@ pub fn shorter_than(v: Vector, limit: f32) -> bool
     ensures { λ r. ⌜ r ≡ lt (norm v) limit ⌝ }
 {
     shorter(v.dot(v), thin_bound(limit))
+}
+
+// Whether twice a triangle's area is below limit.
+pub fn no_area(limit: f32, a: Point, b: Point, c: Point) -> bool
+    ensures { λ r. ⌜ r ≡ noArea limit a b c ⌝ }
+{
+    shorter_than(b.sub(a).cross(c.sub(a)), limit)
 }

@@ -9,7 +9,7 @@ use mir.Val.{boolByte}
 use Rattle.lists.specs.Loops.{fold}
 use Rattle.float.specs.Number.{zerof}
 use Rattle.coords.specs.declared.Point.{Point}
-use Rattle.coords.specs.Coords.{diff}
+use Rattle.coords.specs.Coords.{diff, noArea}
 use Rattle.coords_vector.specs.declared.Vector.{Vector}
 use Rattle.coords_vector.specs.Vectors.{dot, cross, norm}
 use Rattle.face_judge.specs.declared.Side.the-variants.{Thin, Front, Back}
@@ -18,8 +18,8 @@ use Rattle.face_triangle.specs.Triangles.{triangle}
 use Rattle.face_judge.specs.Contract.Offered.{sideOf, sideIn, gathered, noSum, offerOne, offerAll}
 
 module _ (limit : Float) (out : Vector) where
-  gathered-thin : (a b c : Point) (s : Sum) → gathered (sideOf limit out a b c) s .thin ≡ s .thin + boolByte (lt (norm (cross (diff b a) (diff c a))) limit)
-  unfolding sideOf gathered
+  gathered-thin : (a b c : Point) (s : Sum) → gathered (sideOf limit out a b c) s .thin ≡ s .thin + boolByte (noArea limit a b c)
+  unfolding sideOf gathered noArea
   gathered-thin a b c s = let n = cross (diff b a) (diff c a) in go (lt (norm n) limit) (lt (dot n out) zerof) n
     where
       go : (t u : Bool) (n : Vector) → gathered (cond t Thin (cond u (Back n) (Front n))) s .thin ≡ s .thin + boolByte t
@@ -28,9 +28,9 @@ module _ (limit : Float) (out : Vector) where
       go false false n = sym (add-zero (s .thin))
 
   pub two-thin : (a b c d : Point) (base n : ℕ) (is : List ℕ)
-      → boolByte (lt (norm (cross (diff b a) (diff c a))) limit) + boolByte (lt (norm (cross (diff c a) (diff d a))) limit) ≡ offerAll limit (a ∷ b ∷ c ∷ d ∷ []) out base n is (triangle 0 1 2 ∷ triangle 0 2 3 ∷ []) .sum .thin
+      → boolByte (noArea limit a b c) + boolByte (noArea limit a c d) ≡ offerAll limit (a ∷ b ∷ c ∷ d ∷ []) out base n is (triangle 0 1 2 ∷ triangle 0 2 3 ∷ []) .sum .thin
   unfolding offerAll fold offerOne sideIn
   two-thin a b c d base n is =
-      let x = boolByte (lt (norm (cross (diff b a) (diff c a))) limit) in
-      let y = boolByte (lt (norm (cross (diff c a) (diff d a))) limit) in
+      let x = boolByte (noArea limit a b c) in
+      let y = boolByte (noArea limit a c d) in
       sym (gathered-thin a c d (gathered (sideOf limit out a b c) noSum) ∙ ap (λ (k : ℕ). k + y) (gathered-thin a b c noSum ∙ zero-add x))

@@ -3,17 +3,10 @@ ghost use mathlib.Core.Path.{_≡_};
 ghost use Prim.Native.Nat.{_<_, _/_};
 ghost use lib.ListN.{length};
 ghost use Rattle.lists.specs.Loops.{first};
-ghost use Rattle.coords.specs.Coords.{noArea};
 ghost use Rattle.coords.specs.Buffers.{verticesIn};
 ghost use Rattle.validate.specs.Faults.{notFinite, degenerate};
-use coords::Point;
+use coords::thin::no_area;
 use lists::Found;
-
-fn no_area(limit: f32, a: Point, b: Point, c: Point) -> bool
-    ensures { λ r. ⌜ r ≡ noArea limit a b c ⌝ }
-{
-    coords::thin::shorter_than(b.sub(a).cross(c.sub(a)), limit)
-}
 
 pub fn first_not_finite(vertices: &[f32]) -> Found
     ensures { λ r. ⌜ r ≡ first (notFinite (verticesIn (now (vertices .entry)))) (length (verticesIn (now (vertices .entry)))) 0 ⌝ }

@@ -16,9 +16,9 @@ at-most false true = omega arith
 at-most false false = omega arith
 
 returns : tie.Need-returns
-returns c = (at-most (c .before .is-thin .result) (c .is-thin2 .result), λ out base n is. ap₂ (λ (x y : Bool). boolByte x + boolByte y) (c .before .is-thin .ensures) (c .is-thin2 .ensures) ∙ two-thin _ out _ _ _ _ base n is)
+returns c = (at-most (c .before .no-area .result) (c .no-area2 .result), λ out base n is. ap₂ (λ (x y : Bool). boolByte x + boolByte y) (c .before .no-area .ensures) (c .no-area2 .ensures) ∙ two-thin _ out _ _ _ _ base n is)
 
 pub thin-in-quad-spec : {M : Type 1} → statement M
 thin-in-quad-spec =
     tie.close
-    (tie.spec (λ c κs. tt) (λ c. search needs) (λ c κs. tt) (λ c. search needs) (λ c. omega (arith, at-most (c .before .is-thin .result) (c .is-thin2 .result))) returns)
+    (tie.spec (λ c κs. tt) (λ c. search needs) (λ c κs. tt) (λ c. search needs) (λ c. omega (arith, at-most (c .before .no-area .result) (c .no-area2 .result))) returns)
