@@ -5,7 +5,6 @@ ghost use lib.ListN.{length, getD, take};
 ghost use Rattle.float.specs.Number.{zerof};
 ghost use Rattle.lid.specs.Contract.Steps.{insertAt};
 ghost use Rattle.lid_hole.specs.Contract.Order.{insertBy, orderStep, orderOf, Ordered};
-use lid::RingPlace;
 use lid_splice::insert;
 
 // A hole's greatest first coordinate, 0.0 past the last hole.
@@ -19,19 +18,19 @@ fn right_of(rights: &[f32], g: u32) -> f32
     0.0
 }
 
-// Where hole g stands in joining order: before the first that lies further left, or at the end.
-fn find_place(rights: &[f32], order: &[u32], g: u32) -> RingPlace
-    ensures { λ r. ⌜ (insertAt (r .0) g (now (order .entry)) ≡ insertBy (now (rights .entry)) g (now (order .entry))) × (r .0 ≤ length (now (order .entry))) ⌝ }
+// How many holes of an order stand before hole g: those up to the first that lies further left, or all.
+fn find_place(rights: &[f32], order: &[u32], g: u32) -> usize
+    ensures { λ r. ⌜ (insertAt r g (now (order .entry)) ≡ insertBy (now (rights .entry)) g (now (order .entry))) × (r ≤ length (now (order .entry))) ⌝ }
 {
     let right = right_of(rights, g);
     let mut i = 0;
     while i < order.len() {
         if float_sign::total_less(right_of(rights, order[i]), right) {
-            return RingPlace(i);
+            return i;
         }
         i += 1;
     }
-    RingPlace(i)
+    i
 }
 
 // Puts hole g among the c holes of an order, unless it is skipped. The result is how many they then are.

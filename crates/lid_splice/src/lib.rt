@@ -1,4 +1,4 @@
-// A hole put into a ring, in place.
+// A hole put into a ring, and a number into a list, in place.
 ghost use mathlib.Core.Path.{_≡_};
 ghost use mathlib.Core.List.{_++_};
 ghost use Prim.Native.Nat.{_+_, _<_, _≤_};
@@ -7,21 +7,21 @@ ghost use Rattle.lid.specs.Bridges.{splice};
 ghost use Rattle.lid.specs.Contract.Steps.{insertAt, butLast};
 use lid::RingPlace;
 
-// Inserts v at a place: those from there on move up, over the last place.
-pub fn insert(ring: &mut [u32], at: RingPlace, v: u32)
-    requires { ⌜ at .0 < length (now ring) ⌝ }
-    ensures { λ _. ⌜ now (ring .exit) ≡ insertAt (at .0) v (butLast 1 (now (ring .entry))) ⌝ }
+// Inserts v as number i of a list: those from there on move up, over the last.
+pub fn insert(numbers: &mut [u32], i: usize, v: u32)
+    requires { ⌜ i < length (now numbers) ⌝ }
+    ensures { λ _. ⌜ now (numbers .exit) ≡ insertAt i v (butLast 1 (now (numbers .entry))) ⌝ }
 {
-    let last = ring.len() - 1;
+    let last = numbers.len() - 1;
     let mut carry = v;
-    let mut j = at.0;
+    let mut j = i;
     while j < last {
-        let old = ring[j];
-        ring[j] = carry;
+        let old = numbers[j];
+        numbers[j] = carry;
         carry = old;
         j += 1;
     }
-    ring[last] = carry;
+    numbers[last] = carry;
 }
 
 // Moves the corners from place t on up by `gap` places, over as many last places.

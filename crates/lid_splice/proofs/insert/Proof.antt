@@ -10,16 +10,16 @@ use Rattle.lid_splice.proofs.insert.Tie as tie
 use denote.Ref.{now}
 
 abbrev Inv-loop : tie.InvT-loop
-Inv-loop ring₀ v last carry₀ j₀ ring carry j = (length ring ≡ length ring₀) × (j < length ring₀) × (insertAt j carry (take last ring) ≡ insertAt j₀ v (take last ring₀))
+Inv-loop numbers₀ i v last carry₀ j₀ numbers carry j = (length numbers ≡ length numbers₀) × (j < length numbers₀) × (insertAt j carry (take last numbers) ≡ insertAt i v (take last numbers₀))
 
 abbrev μ-loop : tie.MeasureT-loop
-μ-loop ring₀ v last carry₀ j₀ ring carry j = length ring₀ - j
+μ-loop numbers₀ i v last carry₀ j₀ numbers carry j = length numbers₀ - j
 
 loop-holds : tie.Need-loop-holds Inv-loop μ-loop
 loop-holds c = (refl, omega arith, refl)
 
 loop-again : tie.Need-loop-again Inv-loop μ-loop
-loop-again c = (simp length-set (c .before .before .loop .inv .0), omega arith, insert-step (c .before .before .loop .ring) _ (c .before .before .loop .j) (c .before .before .loop .carry) (c .before .loop-test .taken) (omega arith) ∙ c .before .before .loop .inv .2)
+loop-again c = (simp length-set (c .before .before .loop .inv .0), omega arith, insert-step (c .before .before .loop .numbers) _ (c .before .before .loop .j) (c .before .before .loop .carry) (c .before .loop-test .taken) (omega arith) ∙ c .before .before .loop .inv .2)
 
 same-length : tie.Need-same-length Inv-loop μ-loop
 same-length c = simp length-set (c .before .loop .inv .0)
@@ -28,7 +28,7 @@ returns : tie.Need-returns Inv-loop μ-loop
 returns c =
     let a = c .before .before .args in
     let l = c .before .loop in
-    let e : l .j ≡ length (now (a .ring)) - 1 = omega arith in insert-last (l .ring) (length (now (a .ring)) - 1) (l .carry) (omega arith) ∙ (rw e at (c .before .loop .inv .2))
+    let e : l .j ≡ length (now (a .numbers)) - 1 = omega arith in insert-last (l .numbers) (length (now (a .numbers)) - 1) (l .carry) (omega arith) ∙ (rw e at (c .before .loop .inv .2))
 
 pub insert-spec : {M : Type 1} → statement M
 insert-spec =
