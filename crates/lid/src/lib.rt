@@ -10,6 +10,12 @@ pub struct CornerNumber(pub u32);
 // A place in a ring. After a bridge one corner number stands at two places.
 pub struct RingPlace(pub usize);
 
+// What a search among a ring's places finds.
+pub enum FoundPlace {
+    Place(RingPlace),
+    NoPlace,
+}
+
 // A flat corner: the pair of f32 on which the lid is cut.
 pub struct Flat {
     pub x: f32,

@@ -8,12 +8,13 @@ ghost use lib.ListN.{length};
 ghost use Rattle.lists.specs.Loops.{first};
 ghost use Rattle.lid.specs.Contract.Rings.{flatsIn};
 ghost use Rattle.lid.specs.Bridges.{inside, slopeOf, seenAt, visible, sitsIn, isCopy, copyOf, bridge};
-ghost use Rattle.lid.specs.Contract.Steps.{rayTo};
+ghost use Rattle.lid.specs.Contract.Steps.{numbered, rayTo};
 use crate::ray::first_hit;
 use crate::ray::rightmost;
 use lid::Bridged;
 use lid::CornerNumber;
 use lid::Flat;
+use lid::FoundPlace;
 use lid::Hit;
 use lid::Ray;
 use lid::RingPlace;
@@ -23,7 +24,6 @@ use lid_flat::flat_of;
 use lid_flat::turn;
 use lid_ring::corners::corners_at;
 use lid_ring::corners::number_at;
-use lists::Found;
 
 const MIN_POSITIVE: f32 = 1.17549435e-38;
 
@@ -121,17 +121,18 @@ fn is_copy(xs: &[f32], ys: &[f32], ring: &[u32], m: Flat, c: CornerNumber, at: R
 }
 
 // The first such place.
-fn find_copy(xs: &[f32], ys: &[f32], ring: &[u32], m: Flat, c: CornerNumber) -> Found
-    ensures { λ r. ⌜ r ≡ first (isCopy (flatsIn xs ys) (now (ring .entry)) m (c .0)) (length (now (ring .entry))) 0 ⌝ }
+fn find_copy(xs: &[f32], ys: &[f32], ring: &[u32], m: Flat, c: CornerNumber) -> FoundPlace
+    ensures { λ r. ⌜ numbered r ≡ first (isCopy (flatsIn xs ys) (now (ring .entry)) m (c .0)) (length (now (ring .entry))) 0 ⌝ }
 {
     let mut k = 0;
     while k < ring.len() {
-        if is_copy(xs, ys, ring, m, c, RingPlace(k)) {
-            return Found::At(k);
+        let at = RingPlace(k);
+        if is_copy(xs, ys, ring, m, c, at) {
+            return FoundPlace::Place(at);
         }
         k += 1;
     }
-    Found::Nowhere
+    FoundPlace::NoPlace
 }
 
 // Of the places that hold the corner at `target`, the first that m sits in, or `target` where there is none.
@@ -140,8 +141,8 @@ fn copy_of(xs: &[f32], ys: &[f32], ring: &[u32], m: Flat, target: RingPlace) -> 
 {
     let c = number_at(ring, target);
     match find_copy(xs, ys, ring, m, c) {
-        Found::At(k) => RingPlace(k),
-        Found::Nowhere => target,
+        FoundPlace::Place(at) => at,
+        FoundPlace::NoPlace => target,
     }
 }
 

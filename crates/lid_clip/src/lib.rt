@@ -6,12 +6,13 @@ ghost use Rattle.lists.specs.Loops.{first};
 ghost use Rattle.lid.specs.Rings.{turn};
 ghost use Rattle.lid.specs.Contract.Rings.{flats, flatsIn};
 ghost use Rattle.lid.specs.Clipping.{isStraight, clipStep};
-ghost use Rattle.lid.specs.Contract.Steps.{CornerCut, RingClipped};
+ghost use Rattle.lid.specs.Contract.Steps.{numbered, CornerCut, RingClipped};
 ghost use Rattle.lid_clip_ear.specs.Contract.Ears.{Known};
 ghost use Rattle.lid_clip_ear.specs.Contract.Notes.{PlaceForgotten};
 ghost use Rattle.lid_clip.specs.Contract.StepNotes.{stepNotes};
 use float::MIN_AREA;
 use lid::Clipped;
+use lid::FoundPlace;
 use lid::RingPlace;
 use lid::Step;
 use lid_clip_ear::find_ear;
@@ -23,7 +24,6 @@ use lid_log::put_entry;
 use lid_log::put_triangle;
 use lid_ring::corners::corners_at;
 use lid_ring::place::remove;
-use lists::Found;
 
 // Whether the corner at a place lies on a straight run.
 fn is_straight(xs: &[f32], ys: &[f32], ring: &[u32], at: RingPlace) -> bool
@@ -38,17 +38,18 @@ fn is_straight(xs: &[f32], ys: &[f32], ring: &[u32], at: RingPlace) -> bool
 }
 
 // The first place on a straight run.
-fn find_straight(xs: &[f32], ys: &[f32], ring: &[u32]) -> Found
-    ensures { λ r. ⌜ r ≡ first (isStraight (flatsIn xs ys) (now (ring .entry))) (length (now (ring .entry))) 0 ⌝ }
+fn find_straight(xs: &[f32], ys: &[f32], ring: &[u32]) -> FoundPlace
+    ensures { λ r. ⌜ numbered r ≡ first (isStraight (flatsIn xs ys) (now (ring .entry))) (length (now (ring .entry))) 0 ⌝ }
 {
     let mut i = 0;
     while i < ring.len() {
-        if is_straight(xs, ys, ring, RingPlace(i)) {
-            return Found::At(i);
+        let at = RingPlace(i);
+        if is_straight(xs, ys, ring, at) {
+            return FoundPlace::Place(at);
         }
         i += 1;
     }
-    Found::Nowhere
+    FoundPlace::NoPlace
 }
 
 // What is done next: an ear is cut off, marked 1, else a corner on a straight run is dropped, marked 2, else clipping ends.
@@ -62,12 +63,12 @@ fn clip_step(xs: &[f32], ys: &[f32], ring: &[u32], why: &mut [u32]) -> Step
     if ring.len() <= 3 {
         return Step::Stop;
     }
-    if let Found::At(i) = find_ear(xs, ys, ring, why) {
-        return Step::Cut(1, RingPlace(i));
+    if let FoundPlace::Place(at) = find_ear(xs, ys, ring, why) {
+        return Step::Cut(1, at);
     }
     match find_straight(xs, ys, ring) {
-        Found::At(i) => Step::Cut(2, RingPlace(i)),
-        Found::Nowhere => Step::Stop,
+        FoundPlace::Place(at) => Step::Cut(2, at),
+        FoundPlace::NoPlace => Step::Stop,
     }
 }
 

@@ -9,19 +9,19 @@ ghost use Rattle.lists.specs.Loops.{first};
 ghost use Rattle.lid.specs.Rings.{corner, turn};
 ghost use Rattle.lid.specs.Contract.Rings.{flats, flatsIn};
 ghost use Rattle.lid.specs.Clipping.{isEar};
-ghost use Rattle.lid.specs.Contract.Steps.{clearBy};
+ghost use Rattle.lid.specs.Contract.Steps.{numbered, clearBy};
 ghost use Rattle.lid_clip_ear.specs.Contract.Ears.{Known, firstBlock, behind, told, tested, searched};
 use crate::notes::UNTURNED;
 use crate::notes::failed;
 use lid::CornerNumber;
 use lid::Corners;
 use lid::Flat;
+use lid::FoundPlace;
 use lid::RingPlace;
 use lid::Tested;
 use lid_flat::flat_at;
 use lid_flat::turn;
 use lid_ring::corners::corners_at;
-use lists::Found;
 
 // Whether corner p, at q, does not stand in the way of the ear t, at a, b, c.
 fn clear(t: Corners, a: Flat, b: Flat, c: Flat, p: CornerNumber, q: Flat) -> bool
@@ -66,20 +66,20 @@ fn find_block(
     a: Flat,
     b: Flat,
     c: Flat,
-    from: usize,
-) -> Found
-    ensures { λ r. ⌜ r ≡ firstBlock (flatsIn xs ys) t a b c (now (ring .entry)) from ⌝ }
+    from: RingPlace,
+) -> FoundPlace
+    ensures { λ r. ⌜ numbered r ≡ firstBlock (flatsIn xs ys) t a b c (now (ring .entry)) (from .0) ⌝ }
 {
     let both = common(xs, ys);
-    let mut k = from;
+    let mut k = from.0;
     while k < ring.len() {
         let p = CornerNumber(ring[k]);
         if !clear(t, a, b, c, p, flat_in(xs, ys, both, p)) {
-            return Found::At(k);
+            return FoundPlace::Place(RingPlace(k));
         }
         k += 1;
     }
-    Found::Nowhere
+    FoundPlace::NoPlace
 }
 
 // What the corners from place `from` on tell of a place at a, b, c.
@@ -91,14 +91,14 @@ fn test_corners(
     a: Flat,
     b: Flat,
     c: Flat,
-    from: usize,
+    from: RingPlace,
 ) -> Tested
-    ensures { λ r. ⌜ r ≡ told (behind (firstBlock (flatsIn xs ys) t a b c (now (ring .entry)) from)) ⌝ }
+    ensures { λ r. ⌜ r ≡ told (behind (firstBlock (flatsIn xs ys) t a b c (now (ring .entry)) (from .0))) ⌝ }
 {
-    let Found::At(k) = find_block(xs, ys, ring, t, a, b, c, from) else {
+    let FoundPlace::Place(at) = find_block(xs, ys, ring, t, a, b, c, from) else {
         return Tested::Ear;
     };
-    Tested::No(failed(k))
+    Tested::No(failed(at))
 }
 
 // What the tests of a place tell, from the first on that its note q says nothing of.
@@ -111,19 +111,19 @@ fn test_place(xs: &[f32], ys: &[f32], ring: &[u32], at: RingPlace, q: u32) -> Te
     let b = flat_at(xs, ys, t.b);
     let c = flat_at(xs, ys, t.c);
     if 1 < q {
-        return test_corners(xs, ys, ring, t, a, b, c, (q / 2 - 1) as usize);
+        return test_corners(xs, ys, ring, t, a, b, c, RingPlace((q / 2 - 1) as usize));
     }
     if turn(a, b, c) > 0.0 {
-        return test_corners(xs, ys, ring, t, a, b, c, 0);
+        return test_corners(xs, ys, ring, t, a, b, c, RingPlace(0));
     }
     Tested::No(UNTURNED)
 }
 
 // The first place that is an ear. A place that is noted to fail a test is passed over, and what is found of the others is noted.
-pub fn find_ear(xs: &[f32], ys: &[f32], ring: &[u32], why: &mut [u32]) -> Found
+pub fn find_ear(xs: &[f32], ys: &[f32], ring: &[u32], why: &mut [u32]) -> FoundPlace
     requires { ⌜ length (now why) ≡ length (now ring) ⌝ }
     requires { ⌜ Known (flats (now xs) (now ys)) (now ring) (now why) ⌝ }
-    ensures { λ r. ⌜ r ≡ first (isEar (flatsIn xs ys) (now (ring .entry))) (length (now (ring .entry))) 0 ⌝ }
+    ensures { λ r. ⌜ numbered r ≡ first (isEar (flatsIn xs ys) (now (ring .entry))) (length (now (ring .entry))) 0 ⌝ }
     ensures { λ _. ⌜ now (why .exit) ≡ searched (flatsIn xs ys) (now (ring .entry)) (length (now (ring .entry))) 0 (now (why .entry)) ⌝ }
     ensures { λ _. ⌜ Known (flatsIn xs ys) (now (ring .entry)) (now (why .exit)) ⌝ }
 {
@@ -134,11 +134,12 @@ pub fn find_ear(xs: &[f32], ys: &[f32], ring: &[u32], why: &mut [u32]) -> Found
             i += 1;
             continue;
         }
-        let Tested::No(w) = test_place(xs, ys, ring, RingPlace(i), q) else {
-            return Found::At(i);
+        let at = RingPlace(i);
+        let Tested::No(w) = test_place(xs, ys, ring, at, q) else {
+            return FoundPlace::Place(at);
         };
         why[i] = w;
         i += 1;
     }
-    Found::Nowhere
+    FoundPlace::NoPlace
 }

@@ -24,11 +24,12 @@ pub fn forget_all(why: &mut [u32])
     }
 }
 
-// The note of a place that passes the tests before that of the corner at place k, and fails this one. Where that is too far for a note, it says of
+// The note of a place that passes the tests before that of the corner at place `at`, and fails this one. Where that is too far for a note, it says of
 // as many tests as it can that they pass.
-pub fn failed(k: usize) -> u32
-    ensures { λ r. ⌜ r ≡ failedAt (k + 1) ⌝ }
+pub fn failed(at: RingPlace) -> u32
+    ensures { λ r. ⌜ r ≡ failedAt (at .0 + 1) ⌝ }
 {
+    let k = at.0;
     if k < 0x7FFF_FFFE {
         return (2 * k + 3) as u32;
     }

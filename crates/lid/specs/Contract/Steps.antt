@@ -7,12 +7,16 @@ use lib.ListN.{length, getD, take, drop}
 use lib.Dec.{eqb}
 use lib.Ieee.{lt}
 use denote.Ref.{now}
+use Rattle.lists.specs.declared.Found.{Found}
+use Rattle.lists.specs.declared.Found.the-variants.{At, Nowhere}
 use Rattle.lists.specs.Loops.{removeAt}
 use Rattle.lists.specs.Slices.{Slice}
 use Rattle.float.specs.Number.{zerof}
 use Rattle.float.specs.Signs.{signum}
 use Rattle.lid.specs.declared.Flat.{Flat}
 use Rattle.lid.specs.declared.CornerNumber.{CornerNumber}
+use Rattle.lid.specs.declared.FoundPlace.{FoundPlace}
+use Rattle.lid.specs.declared.FoundPlace.the-variants.{Place, NoPlace}
 use Rattle.lid.specs.declared.Corners.{Corners}
 use Rattle.lid.specs.declared.Ray.{Ray}
 use Rattle.lid.specs.declared.Clipped.{Clipped}
@@ -25,6 +29,11 @@ use Rattle.lid.specs.Lid.{earsOf}
 -- a corner by its number's type
 abbrev pub cornerOf : ℕ → CornerNumber
 cornerOf i = record { 0 = i }
+
+-- a place that was found, by its number
+abbrev pub numbered : FoundPlace → Found
+numbered (Place p) = At (p .0)
+numbered NoPlace = Nowhere
 
 -- the corners before, at and after place i
 abbrev pub cornersAround : List ℕ → ℕ → Corners

@@ -7,7 +7,7 @@ use Rattle.lid_bridge.proofs.copy_of.Tie as tie
 
 returns : tie.Need-returns
 unfolding copyOf orElse
-returns c = rw (← (rw (c .before .before .before .before .number-at .ensures) at (c .before .before .before .find-copy .ensures)), c .before .k .given .1)
+returns c = rw (← (rw (c .before .before .before .before .number-at .ensures) at (c .before .before .before .find-copy .ensures)), c .before .at .given .1)
 
 returns-2 : tie.Need-returns-2
 unfolding copyOf orElse

@@ -13,11 +13,11 @@ returns c = (rw (le-leb _ _ (c .if1 .taken)), (c .before .before .before .before
 
 returns-2 : tie.Need-returns-2
 unfolding clipStep cutEar stepNotes
-returns-2 c = (rw (lt-leb _ _ (c .before .before .before .before .before .before .before .if1 .left), ← c .before .before .before .before .before .find-ear .ensures .0, c .before .i .given .1), (c .before .before .before .before .before .find-ear .ensures .1 .1, rw (lt-leb _ _ (c .before .before .before .before .before .before .before .if1 .left)) (c .before .before .before .before .before .find-ear .ensures .1 .0)))
+returns-2 c = (rw (lt-leb _ _ (c .before .before .before .before .before .before .before .if1 .left), ← c .before .before .before .before .before .find-ear .ensures .0, c .before .at .given .1), (c .before .before .before .before .before .find-ear .ensures .1 .1, rw (lt-leb _ _ (c .before .before .before .before .before .before .before .if1 .left)) (c .before .before .before .before .before .find-ear .ensures .1 .0)))
 
 returns-3 : tie.Need-returns-3
 unfolding clipStep cutEar cutStraight stepNotes
-returns-3 c = (rw (lt-leb _ _ (c .before .before .before .before .before .before .before .before .before .before .if1 .left), ← c .before .before .before .before .before .before .before .before .find-ear .ensures .0, c .before .before .before .before .enum-told .given .1, ← c .before .before .before .find-straight .ensures, c .before .i2 .given .1), (c .before .before .before .before .before .before .before .before .find-ear .ensures .1 .1, rw (lt-leb _ _ (c .before .before .before .before .before .before .before .before .before .before .if1 .left)) (c .before .before .before .before .before .before .before .before .find-ear .ensures .1 .0)))
+returns-3 c = (rw (lt-leb _ _ (c .before .before .before .before .before .before .before .before .before .before .if1 .left), ← c .before .before .before .before .before .before .before .before .find-ear .ensures .0, c .before .before .before .before .enum-told .given .1, ← c .before .before .before .find-straight .ensures, c .before .at2 .given .1), (c .before .before .before .before .before .before .before .before .find-ear .ensures .1 .1, rw (lt-leb _ _ (c .before .before .before .before .before .before .before .before .before .before .if1 .left)) (c .before .before .before .before .before .before .before .before .find-ear .ensures .1 .0)))
 
 returns-4 : tie.Need-returns-4
 unfolding clipStep cutEar cutStraight stepNotes

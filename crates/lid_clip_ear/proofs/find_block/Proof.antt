@@ -12,10 +12,10 @@ use Rattle.lid_clip_ear.proofs.find_block.Statement.{statement}
 use Rattle.lid_clip_ear.proofs.find_block.Tie as tie
 
 abbrev Inv-loop : tie.InvT-loop
-Inv-loop xs ys ring t a b c from both k₀ k = first (blocks (flats xs ys) t a b c ring) (length ring - k) k ≡ first (blocks (flats xs ys) t a b c ring) (length ring - from) from
+Inv-loop xs ys ring t a b c both k₀ k = first (blocks (flats xs ys) t a b c ring) (length ring - k) k ≡ first (blocks (flats xs ys) t a b c ring) (length ring - k₀) k₀
 
 abbrev μ-loop : tie.MeasureT-loop
-μ-loop xs ys ring t a b c from both k₀ k = length ring - k
+μ-loop xs ys ring t a b c both k₀ k = length ring - k
 
 loop-holds : tie.Need-loop-holds Inv-loop μ-loop
 loop-holds c = refl

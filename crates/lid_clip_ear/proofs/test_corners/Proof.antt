@@ -10,7 +10,7 @@ returns c = rw (← c .before .before .find-block .ensures, c .enum-told .given 
 
 returns-2 : tie.Need-returns-2
 unfolding told behind
-returns-2 c = rw (← c .before .before .before .before .find-block .ensures, c .before .before .k .given .1, c .failed .ensures)
+returns-2 c = rw (← c .before .before .before .before .find-block .ensures, c .before .before .at .given .1, c .failed .ensures)
 
 pub test-corners-spec : {M : Type 1} → statement M
 test-corners-spec =
