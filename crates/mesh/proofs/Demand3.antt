@@ -17,6 +17,7 @@ use Rattle.coords.specs.Buffers.{vertexNumbers}
 use Rattle.object.specs.Object.{Object}
 use Rattle.scene.specs.Scene.{Scene, accepted, scene}
 use Rattle.lid.specs.Log.{Entry}
+use Rattle.validate.specs.Validate.{validateAt, validate}
 use Rattle.mesh.specs.Demand3.{AccountHolds, AreasFollow, SpansFollow, EndToEnd, LongEnough, prefixes, Demand3Of, Demand3}
 use Rattle.mesh.specs.Mesh.{Span, Account, accountsOf, logsOf, meshOf}
 use Rattle.mesh.specs.declared.Room.{Room}
@@ -37,7 +38,8 @@ use Rattle.mesh.proofs.Rooms.{long-enough}
 
 -- ---- of what is written for a list of objects
 
-pub written-holds : (limit : Float) → Above limit → (os : List Object) → Each (λ (o : Object). NearShape (o .shape)) os → Demand3Of limit os (output limit os)
+pub written-holds : (limit : Float) → Above limit → (os : List Object) → Each (λ (o : Object). NearShape (o .shape)) os
+    → Demand3Of limit os (output limit os) (validateAt limit (output limit os .vertices) (output limit os .indices))
 unfolding output accountsOf
 written-holds limit above os near =
     let m = meshOf limit os in
@@ -48,6 +50,7 @@ written-holds limit above os near =
       log = refl;
       spans = subst₂ (λ (vs : List Point) (ss : List Span). SpansFollow limit vs (m .indices) os ss) (sym (vertices-back (m .vertices))) (sym (spans-back (m .spans))) (mesh-spans limit os);
       end-to-end = subst₂ (λ (n : ℕ) (ss : List Span). EndToEnd n (length (m .indices)) 0 0 ss) thirds (sym (spans-back (m .spans))) (mesh-ends limit os);
+      validated = refl;
       verdict = verdict-holds limit above os near;
       areas = subst₂ (λ (accounts : List Account) (log : List Entry). AreasFollow os accounts log) (sym accounts) (sym (entries-back (logsOf os))) (areas-follow limit os near);
     }
@@ -74,4 +77,7 @@ prefixes-output bytes os b e h = scene-built minArea os b (scene bytes) e h
 -- ---- demand 3
 
 pub demand3 : Demand3
-demand3 bytes os b e h = subst (Demand3Of minArea os) (sym (prefixes-output bytes os b e h)) (written-holds minArea min-above os (accepted-near bytes os e))
+unfolding validate
+demand3 bytes os b e h =
+    subst (λ (mesh : Buffers). Demand3Of minArea os mesh (validate (mesh .vertices) (mesh .indices))) (sym (prefixes-output bytes os b e h))
+    (written-holds minArea min-above os (accepted-near bytes os e))

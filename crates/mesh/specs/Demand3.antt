@@ -20,9 +20,10 @@ use Rattle.lid.specs.Log.{Entry, logNumbers, entriesIn, isMark}
 use Rattle.lid.specs.Areas.{AreasAgree}
 use Rattle.shape.specs.Price.{offered}
 use Rattle.shape.specs.Shapes.{facesOf, logOf, flatOf}
+use Rattle.validate.specs.declared.Validation.{Validation}
 use Rattle.validate.specs.declared.Validation.the-variants.{Judged}
 use Rattle.validate.specs.declared.Verdict.the-variants.{Ok, Empty}
-use Rattle.validate.specs.Validate.{validateAt}
+use Rattle.validate.specs.Validate.{validateAt, validate}
 use Rattle.mesh.specs.Mesh.{Span, Account, spansIn, accountsIn, keptBy, thinBy, logsOf}
 use Rattle.mesh.specs.PerBuffer.{PerBuffer, each, at, Counts, Buffers}
 use Rattle.mesh.specs.Operations.{countsOf, measure, build}
@@ -89,13 +90,14 @@ AreasFollow (o ∷ os) (a ∷ accounts) log = AreasHold (o .shape) (take (a .ent
 
 -- ---- all of it
 
--- of a list of objects and the measured first numbers of the buffers
-pub record Demand3Of (limit : Float) (os : List Object) (mesh : Buffers) : Type 0 where
+-- of a list of objects, the measured first numbers of the buffers, and what Validate answers on that mesh
+pub record Demand3Of (limit : Float) (os : List Object) (mesh : Buffers) (validation : Validation) : Type 0 where
   pub account : Pairwise (AccountHolds limit) os (accountsIn (mesh .account))
   pub log : mesh .log ≡ logNumbers (logsOf os)
   pub spans : SpansFollow limit (verticesIn (mesh .vertices)) (mesh .indices) os (spansIn (mesh .spans))
   pub end-to-end : EndToEnd (length (mesh .vertices) / 3) (length (mesh .indices)) 0 0 (spansIn (mesh .spans))
-  pub verdict : validateAt limit (mesh .vertices) (mesh .indices) ≡ Judged (cond (eqb (sumOf (λ (o : Object). keptBy limit (o .shape)) os) 0) Empty Ok)
+  pub validated : validation ≡ validateAt limit (mesh .vertices) (mesh .indices)
+  pub verdict : validation ≡ Judged (cond (eqb (sumOf (λ (o : Object). keptBy limit (o .shape)) os) 0) Empty Ok)
   pub areas : AreasFollow os (accountsIn (mesh .account)) (entriesIn (mesh .log))
 
 -- the first numbers of each buffer, as many as are counted for it
@@ -112,4 +114,4 @@ Demand3 =
     (bytes : List ℕ) (os : List Object) (b : Buffers)
     → scene bytes ≡ accepted os
     → LongEnough (countsOf b) (measure bytes .counts)
-    → Demand3Of minArea os (prefixes (measure bytes .counts) (build bytes b .buffers))
+    → let mesh = prefixes (measure bytes .counts) (build bytes b .buffers) in Demand3Of minArea os mesh (validate (mesh .vertices) (mesh .indices))

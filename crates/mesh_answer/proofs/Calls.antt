@@ -56,6 +56,10 @@ module _ (limit : Float) where
 
 -- ---- Validate behind it
 
+-- demand 3 of the mesh that a call counts in the buffers, and of Validate's answer on it
+abbrev Holds : List Object → Answer → Buffers → Type 0
+Holds os a b = let mesh = prefixes (a .counts) b in Demand3Of minArea os mesh (validate (mesh .vertices) (mesh .indices))
+
 module _ (s : List ℕ) (b : Buffers) {r : Built} (e : r ≡ build s b) where
   pub vertices-fit : {v : ℕ} → v ≡ r .answer .counts .vertices → v ≤ length (r .buffers .vertices)
   unfolding build
@@ -65,14 +69,18 @@ module _ (s : List ℕ) (b : Buffers) {r : Built} (e : r ≡ build s b) where
   unfolding build
   indices-fit h = rw (h, e) (scene-fits minArea (scene s) b .1)
 
-  pub both-are : (v i : ℕ) (x : Validation) → v ≡ r .answer .counts .vertices → i ≡ r .answer .counts .indices → x ≡ validate (take v (r .buffers .vertices)) (take i (r .buffers .indices))
-      → _≡_ {A = BuiltAndJudged} (record { built = r; validation = x }) (buildAndValidate s b)
-  unfolding buildAndValidate judged
-  both-are v i x p q h =
-      (λ j. record { built = r; validation = (h ∙ ap₂ (λ (v i : ℕ). validate (take v (r .buffers .vertices)) (take i (r .buffers .indices))) p q) j }) ∙ ap judged e
+  module _ (v i : ℕ) (x : Validation) (p : v ≡ r .answer .counts .vertices) (q : i ≡ r .answer .counts .indices)
+      (h : x ≡ validate (take v (r .buffers .vertices)) (take i (r .buffers .indices))) where
+    validated : x ≡ validate (take (r .answer .counts .vertices) (r .buffers .vertices)) (take (r .answer .counts .indices) (r .buffers .indices))
+    validated = h ∙ ap₂ (λ (v i : ℕ). validate (take v (r .buffers .vertices)) (take i (r .buffers .indices))) p q
 
-  pub demand3-built : (os : List Object) → scene s ≡ accepted os → LongEnough (countsOf b) (measure s .counts) → Demand3Of minArea os (prefixes (r .answer .counts) (r .buffers))
-  unfolding build measure
-  demand3-built os h l =
-      subst (λ (r : Built). Demand3Of minArea os (prefixes (r .answer .counts) (r .buffers))) (sym e)
-      (subst (λ (a : Answer). Demand3Of minArea os (prefixes (a .counts) (buildScene minArea (scene s) b .buffers))) (sym (scene-answer minArea (scene s) b os h l)) (demand3 s os b h l))
+    pub both-are : _≡_ {A = BuiltAndJudged} (record { built = r; validation = x }) (buildAndValidate s b)
+    unfolding buildAndValidate judged
+    both-are = (λ j. record { built = r; validation = validated j }) ∙ ap judged e
+
+    pub demand3-built : (os : List Object) → scene s ≡ accepted os → LongEnough (countsOf b) (measure s .counts) → Demand3Of minArea os (prefixes (r .answer .counts) (r .buffers)) x
+    unfolding build measure prefixes
+    demand3-built os k l =
+        subst (Demand3Of minArea os (prefixes (r .answer .counts) (r .buffers))) (sym validated)
+        (subst (λ (r : Built). Holds os (r .answer) (r .buffers)) (sym e)
+        (subst (λ (a : Answer). Holds os a (buildScene minArea (scene s) b .buffers)) (sym (scene-answer minArea (scene s) b os k l)) (demand3 s os b k l)))

@@ -25,7 +25,7 @@ pub fn build_and_validate(
     ensures demand3 { λ r. ⌜ ((os : List Object)
         → scene (now (s .entry)) ≡ accepted os
         → LongEnough (countsOf (entering vertices normals indices spans account log)) (measure (now (s .entry)) .counts)
-        → Demand3Of minArea os (prefixes (answerOf (r .answer) .counts) (leaving vertices normals indices spans account log))) ⌝ }
+        → Demand3Of minArea os (prefixes (answerOf (r .answer) .counts) (leaving vertices normals indices spans account log)) (r .validation)) ⌝ }
 {
     let answer = build(s, vertices, normals, indices, spans, account, log);
     let m = answer.mesh_lengths();

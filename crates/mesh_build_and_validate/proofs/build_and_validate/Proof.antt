@@ -21,7 +21,8 @@ returns : tie.Need-returns
 returns c =
     let c₁ = c .before .before .before in
     let b = c₁ .before .before .before .before .before .before .before .before .before .before .before .before .before .build .ensures in
-    (both-are _ _ b _ _ _ (c₁ .mesh-lengths .ensures .0) (c₁ .mesh-lengths .ensures .1) (c .validate .ensures), demand3-built _ _ b)
+    let m = c₁ .mesh-lengths .ensures in
+    (both-are _ _ b _ _ _ (m .0) (m .1) (c .validate .ensures), demand3-built _ _ b _ _ _ (m .0) (m .1) (c .validate .ensures))
 
 pub build-and-validate-spec : {M : Type 1} → statement M
 build-and-validate-spec =
