@@ -1,3 +1,4 @@
 pub mod RingLaws
 pub mod RemoveLaws
 pub mod FoldLaws
+pub mod BufferLaws

@@ -1,8 +1,8 @@
 // The places of a ring: their neighbours, and a corner taken out.
 ghost use mathlib.Core.Path.{_≡_};
-ghost use Prim.Native.Nat.{_-_, _<_};
-ghost use lib.ListN.{length, take};
-ghost use Rattle.lists.specs.Loops.{next, previous, removeAt};
+ghost use Prim.Native.Nat.{_<_};
+ghost use lib.ListN.{length};
+ghost use Rattle.lists.specs.Loops.{next, previous, removeAt, over};
 use lid::RingPlace;
 
 // The place before, in a ring of n places.
@@ -32,7 +32,7 @@ pub fn place_after(n: usize, at: RingPlace) -> RingPlace
 // Takes the corner at a place out of a ring: those behind it move down, and the last place keeps its number.
 pub fn remove(ring: &mut [u32], at: RingPlace)
     requires { ⌜ at .0 < length (now ring) ⌝ }
-    ensures { λ _. ⌜ take (length (now (ring .entry)) - 1) (now (ring .exit)) ≡ removeAt (at .0) (now (ring .entry)) ⌝ }
+    ensures { λ _. ⌜ now (ring .exit) ≡ over (removeAt (at .0) (now (ring .entry))) (now (ring .entry)) ⌝ }
 {
     let mut j = at.0;
     let last = ring.len() - 1;

@@ -7,6 +7,7 @@ use borrow.Author.Tests.{eq-eqb, ne-eqb}
 use Rattle.lid.specs.Lid.{earsOf}
 use Rattle.lid.specs.Contract.Written.{triangleNumbers}
 use Rattle.lists.specs.Loops.{join}
+use Rattle.lid_ring.proofs.BufferLaws.{removed-front}
 use Rattle.lid_clip.proofs.cut.Statement.{statement}
 use Rattle.lid_clip.proofs.cut.Tie as tie
 
@@ -38,7 +39,7 @@ returns : tie.Need-returns
 unfolding earsOf
 returns c =
     let one = eq-eqb _ _ (c .before .before .before .before .if1 .taken) in
-    (record { removed = c .before .before .before .before .before .before .before .remove .ensures; written = rw (c .before .before .before .before .before .before .before .before .before .before .before .before .before .corners-at .ensures) at (c .before .before .before .before .before .before .before .before .before .before .before .put-entry .ensures); ears = rw one (rw (c .before .before .before .before .before .before .before .before .before .before .before .before .before .corners-at .ensures) at (c .before .before .put-triangle .ensures)); offered = rw one }, c .before .before .before .before .before .before .before .before .before .before .before .before .before .before .before .before .before .forget .ensures)
+    (record { removed = removed-front _ _ _ (c .before .before .before .before .before .before .before .before .before .before .before .before .before .before .before .before .before .before .before .before .before .before .before .pre .0) (c .before .before .before .before .before .before .before .remove .ensures); written = rw (c .before .before .before .before .before .before .before .before .before .before .before .before .before .corners-at .ensures) at (c .before .before .before .before .before .before .before .before .before .before .before .put-entry .ensures); ears = rw one (rw (c .before .before .before .before .before .before .before .before .before .before .before .before .before .corners-at .ensures) at (c .before .before .put-triangle .ensures)); offered = rw one }, c .before .before .before .before .before .before .before .before .before .before .before .before .before .before .before .before .before .forget .ensures)
 
 same-length-5 : tie.Need-same-length-5
 same-length-5 c = c .before .before .before .remove .kept .0
@@ -53,7 +54,7 @@ returns-2 : tie.Need-returns-2
 unfolding triangleNumbers join earsOf
 returns-2 c =
     let other = ne-eqb _ _ (c .if1 .left) in
-    (record { removed = c .before .before .before .remove .ensures; written = rw (c .before .before .before .before .before .before .before .before .before .corners-at .ensures) at (c .before .before .before .before .before .before .before .put-entry .ensures); ears = rw other refl; offered = rw other (sym (add-zero (c .before .before .before .before .before .before .before .before .before .before .before .before .before .before .before .before .before .before .before .args .count))) }, c .before .before .before .before .before .before .before .before .before .before .before .before .before .forget .ensures)
+    (record { removed = removed-front _ _ _ (c .before .before .before .before .before .before .before .before .before .before .before .before .before .before .before .before .before .before .before .pre .0) (c .before .before .before .remove .ensures); written = rw (c .before .before .before .before .before .before .before .before .before .corners-at .ensures) at (c .before .before .before .before .before .before .before .put-entry .ensures); ears = rw other refl; offered = rw other (sym (add-zero (c .before .before .before .before .before .before .before .before .before .before .before .before .before .before .before .before .before .before .before .args .count))) }, c .before .before .before .before .before .before .before .before .before .before .before .before .before .forget .ensures)
 
 pub cut-spec : {M : Type 1} → statement M
 cut-spec =
