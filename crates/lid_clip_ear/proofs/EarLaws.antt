@@ -13,7 +13,7 @@ use lib.Ieee.{lt}
 use borrow.Author.Tests.{eqb-true, eqb-false, ltb-true, ltb-false, leb-true, leb-false, not-true, not-false, eq-eqb, ne-eqb}
 use Rattle.lists.specs.declared.Found.{Found}
 use Rattle.lists.specs.declared.Found.the-variants.{At, Nowhere}
-use Rattle.lists.specs.Loops.{next, previous, first, every, removeAt}
+use Rattle.lists.specs.Loops.{next, previous, first, every, removeAt, over}
 use Rattle.lists.proofs.Places.{next-inside, next-last, previous-inside, previous-first}
 use Rattle.lists.proofs.Lists.{getD-any}
 use Rattle.lists.proofs.Loops.{first-start, first-found, first-next, first-end}
@@ -23,8 +23,8 @@ use Rattle.lid.specs.declared.Tested.the-variants.{Ear, No}
 use Rattle.lid.specs.Rings.{turnOf}
 use Rattle.lid.specs.Clipping.{before, here, after, clear, isEar}
 use Rattle.lid.proofs.Facts.{removeAt-size}
-use Rattle.lid_clip_ear.specs.Contract.Notes.{failedAt, moved, without}
-use Rattle.lid_clip_ear.proofs.NoteLaws.{rem-low, rem-high, Moves, stays, goes-on, falls, moves}
+use Rattle.lid_clip_ear.specs.Contract.Notes.{failedAt, moved, anew, without}
+use Rattle.lid_clip_ear.proofs.NoteLaws.{rem-low, rem-high, Moves, stays, goes-on, falls, moves, forgotten-front}
 use Rattle.lid_clip_ear.specs.Contract.Ears.{fails, Noted, Known, told, tested, looked, noteDown, searched}
 use Rattle.lid_clip_ear.proofs.FirstLaws.{Hit, first-hit, first-miss}
 
@@ -259,51 +259,47 @@ moved-none fs ring k i = go (moved i 0) (moves (2 * i + 2) 0)
     go w (falls h) = absurd (let z : ⊥ = omega arith in z)
 
 module _ (fs : List Flat) (l why : List ℕ) (i : ℕ) (hi : i < length l) (same : length why ≡ length l) (known : Known fs l why) where
-  -- the notes with those of the neighbours anew
-  abbrev anew : List ℕ
-  anew = set (set why (previous (length why) i) 0) (next (length why) i) 0
-
-  anew-long : length anew ≡ length l
+  anew-long : length (anew i why) ≡ length l
   anew-long = length-set (set why (previous (length why) i) 0) (next (length why) i) 0 ∙ length-set why (previous (length why) i) 0 ∙ same
 
-  -- place o of them, which stands at place k of the ring that is left
-  still : (k o : ℕ) → o < length l → ((o ≡ previous (length l) i → ⊥) → (o ≡ next (length l) i → ⊥) → Same l i k o) → Noted fs (removeAt i l) k (moved i (getD anew o 0))
+  -- place o of the notes anew, which stands at place k of the ring that is left
+  still : (k o : ℕ) → o < length l → ((o ≡ previous (length l) i → ⊥) → (o ≡ next (length l) i → ⊥) → Same l i k o) → Noted fs (removeAt i l) k (moved i (getD (anew i why) o 0))
   still k o ho place = go (eqb o (next (length why) i)) refl (eqb o (previous (length why) i)) refl
     where
-      go : (s : Bool) → eqb o (next (length why) i) ≡ s → (t : Bool) → eqb o (previous (length why) i) ≡ t → Noted fs (removeAt i l) k (moved i (getD anew o 0))
+      go : (s : Bool) → eqb o (next (length why) i) ≡ s → (t : Bool) → eqb o (previous (length why) i) ≡ t → Noted fs (removeAt i l) k (moved i (getD (anew i why) o 0))
       go true s t u =
           let e : o ≡ next (length why) i = eqb-true _ _ s in
-          let z : getD anew o 0 ≡ 0 = ap (λ (n : ℕ). getD anew n 0) e ∙ getD-set-same (set why (previous (length why) i) 0) (next (length why) i) 0 0 (omega (arith, length-set why (previous (length why) i) 0)) in
+          let z : getD (anew i why) o 0 ≡ 0 = ap (λ (n : ℕ). getD (anew i why) n 0) e ∙ getD-set-same (set why (previous (length why) i) 0) (next (length why) i) 0 0 (omega (arith, length-set why (previous (length why) i) 0)) in
           rw z (moved-none fs (removeAt i l) k i)
       go false s true u =
           let e : o ≡ previous (length why) i = eqb-true _ _ u in
-          let z : getD anew o 0 ≡ 0 = getD-set-other (set why (previous (length why) i) 0) (next (length why) i) o 0 0 (eqb-false _ _ s) ∙ ap (λ (n : ℕ). getD (set why (previous (length why) i) 0) n 0) e ∙ getD-set-same why (previous (length why) i) 0 0 (omega arith) in
+          let z : getD (anew i why) o 0 ≡ 0 = getD-set-other (set why (previous (length why) i) 0) (next (length why) i) o 0 0 (eqb-false _ _ s) ∙ ap (λ (n : ℕ). getD (set why (previous (length why) i) 0) n 0) e ∙ getD-set-same why (previous (length why) i) 0 0 (omega arith) in
           rw z (moved-none fs (removeAt i l) k i)
       go false s false u =
           let a = eqb-false _ _ s in
           let b = eqb-false _ _ u in
-          let z : getD anew o 0 ≡ getD why o 0 = getD-set-other (set why (previous (length why) i) 0) (next (length why) i) o 0 0 a ∙ getD-set-other why (previous (length why) i) o 0 0 b in
+          let z : getD (anew i why) o 0 ≡ getD why o 0 = getD-set-other (set why (previous (length why) i) 0) (next (length why) i) o 0 0 a ∙ getD-set-other why (previous (length why) i) o 0 0 b in
           rw z (keep l i hi fs k o (place (rw same at b) (rw same at a)) (getD why o 0) (known .noted o ho))
 
   known-cut : (new : List ℕ) → take (length why - 1) new ≡ without i why → Known fs (removeAt i l) new
   unfolding without
   known-cut new e = record { noted = λ k hk. go k hk (ltb k i) refl }
     where
-      read : (k : ℕ) → k < length (removeAt i l) → getD new k 0 ≡ moved i (getD (removeAt i anew) k 0)
+      read : (k : ℕ) → k < length (removeAt i l) → getD new k 0 ≡ moved i (getD (removeAt i (anew i why)) k 0)
       read k hk =
           sym (getD-take (length why - 1) new k 0 (omega (arith, long l i hi))) ∙ ap (λ (v : List ℕ). getD v k 0) e
-          ∙ getD-any (map (moved i) (removeAt i anew)) k 0 (moved i 0) (omega (arith, length-map (removeAt i anew) (moved i), removeAt-size anew i (omega (arith, anew-long)), anew-long, long l i hi))
-          ∙ List·getD-map (moved i) (removeAt i anew) k 0
+          ∙ getD-any (map (moved i) (removeAt i (anew i why))) k 0 (moved i 0) (omega (arith, length-map (removeAt i (anew i why)) (moved i), removeAt-size (anew i why) i (omega (arith, anew-long)), anew-long, long l i hi))
+          ∙ List·getD-map (moved i) (removeAt i (anew i why)) k 0
 
       go : (k : ℕ) → k < length (removeAt i l) → (b : Bool) → ltb k i ≡ b → Noted fs (removeAt i l) k (getD new k 0)
       go k hk true t =
           let g : k < i = ltb-true k i t in
-          let z = read k hk ∙ ap (moved i) (rem-low anew i k (omega (arith, anew-long)) g) in
+          let z = read k hk ∙ ap (moved i) (rem-low (anew i why) i k (omega (arith, anew-long)) g) in
           rw z (still k k (omega arith) (low-same l i hi k g))
       go k hk false t =
           let g : i ≤ k = ltb-false k i t in
           let below : suc k < length l = omega (arith, long l i hi) in
-          let z = read k hk ∙ ap (moved i) (rem-high anew i k (omega (arith, anew-long)) g) in
+          let z = read k hk ∙ ap (moved i) (rem-high (anew i why) i k (omega (arith, anew-long)) g) in
           rw z (still k (suc k) below (high-same l i hi k below g))
 
 -- ---- the loop of `find_ear`
@@ -431,13 +427,13 @@ module _ (fs : List Flat) (why₀ ring why : List ℕ) (m : ℕ) (hr : m ≤ len
 
   -- a place is removed
   pub noting-again : Noting fs why₀ ring why m → (r w : List ℕ) (p : ℕ) → length w ≡ length (take m why) → length r ≡ length (take m ring)
-      → take (length (take m ring) - 1) r ≡ removeAt p (take m ring) → take (length (take m why) - 1) w ≡ without p (take m why) → p < length (take m ring)
+      → take (length (take m ring) - 1) r ≡ removeAt p (take m ring) → w ≡ over (without p (take m why)) (anew p (take m why)) → p < length (take m ring)
       → Noting fs why₀ (r ++ drop m ring) (w ++ drop m why) (m - 1)
   noting-again noting r w p kw kr removed forgot hp =
       let many : length (take m ring) ≡ m = length-take-le m ring hr in
       let er : take (m - 1) (r ++ drop m ring) ≡ removeAt p (take m ring) = take-append-le (m - 1) r (drop m ring) (omega arith) ∙ ap (λ (n : ℕ). take (n - 1) r) (sym many) ∙ removed in
       let ew : take (m - 1) (w ++ drop m why) ≡ take (m - 1) w = take-append-le (m - 1) w (drop m why) (omega (arith, both-long)) in
-      let still-known = known-cut fs (take m ring) (take m why) p hp both-long (noting .known) w forgot in
+      let still-known = known-cut fs (take m ring) (take m why) p hp both-long (noting .known) w (forgotten-front p (take m why) w (omega (arith, both-long)) forgot) in
       record {
         why-long = length-front why w m kw ∙ noting .why-long;
         known = rw (er, ew) (known-as fs (removeAt p (take m ring)) w (take (m - 1) w) (λ k hk. getD-take (m - 1) w k 0 (omega (arith, removeAt-size (take m ring) p hp))) still-known);

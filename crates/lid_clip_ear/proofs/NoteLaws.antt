@@ -3,17 +3,19 @@ use mathlib.Core.Path.{_≡_, refl, sym, ap, _∙_}
 use mathlib.Core.Bool.{Bool, true, false, cond}
 use mathlib.Core.List.{List, [], _∷_, _++_, map, append-assoc, append-nil}
 use Prim.Native.Nat.{ℕ, zero, suc, _+_, _-_, _*_, _<_, _≤_, _^_}
-use native.Mathlib.Nat.{le-of-suc-le-suc, not-suc-le-zero}
+use native.Mathlib.Nat.{le-of-suc-le-suc, le-of-lt, not-suc-le-zero}
 use native.Mathlib.Numerals.{add-one}
 use native.Mathlib.Omega.{arith}
-use lib.ListN.{length, getD, take, drop, set, replicate, length-set, length-map, length-replicate, getD-replicate, drop-of-length-le, List·getD-map}
-use lib.Seq.{getD-set-same, getD-set-other, ext-getD, take-at, take-suc-set, length-take-le, length-front, drop-cons, drop-set-lt, drop-append-add, drop-drop}
+use lib.ListN.{length, getD, take, drop, set, replicate, length-append, length-drop, length-set, length-map, length-replicate, getD-replicate, drop-of-length-le, List·getD-map}
+use lib.Seq.{getD-set-same, getD-set-other, ext-getD, take-at, take-suc-set, length-take-le, length-front, drop-cons, drop-set-lt, drop-append-add, drop-drop, drop-at}
 use lib.Dec.{eqb, ltb}
 use borrow.Author.Tests.{eqb-true, eqb-false, ltb-true, ltb-false, lt-ltb, le-ltb}
-use Rattle.lists.specs.Loops.{next, previous, removeAt}
+use Rattle.lists.specs.Loops.{next, previous, removeAt, over}
 use Rattle.lists.proofs.Lists.{getD-any, map-append}
 use Rattle.lid.proofs.Areas.Ring.{removeAt-is}
-use Rattle.lid_clip_ear.specs.Contract.Notes.{down, movedBy, moved, capped, without}
+use Rattle.lid.proofs.Facts.{removeAt-size}
+use Rattle.lid_ring.proofs.BufferLaws.{over-is, over-front, over-behind, behind-later}
+use Rattle.lid_clip_ear.specs.Contract.Notes.{down, movedBy, moved, capped, movedBehind, anew, without}
 
 -- ---- places after a removal
 
@@ -108,6 +110,9 @@ module _ (f : ℕ → ℕ) (why : List ℕ) (k : ℕ) where
       let next-note : drop (k + 1) why ≡ getD why (k + 1) 0 ∷ drop (k + 1 + 1) why = drop-cons why (k + 1) 0 h ∙ ap (λ (m : ℕ). getD why (k + 1) 0 ∷ drop m why) (sym (add-one (k + 1))) in
       rw (front, rest, next-note, e) (append-assoc (take k why) (f (getD why (k + 1) 0) ∷ []) (map f (drop (k + 1 + 1) why)))
 
+  pub behind-size : k < length why → length (take k why ++ map f (drop (k + 1) why)) ≡ length why - 1
+  behind-size h = length-append (take k why) (map f (drop (k + 1) why)) ∙ omega (arith, length-take-le k why (le-of-lt h), length-map (drop (k + 1) why) f, length-drop (k + 1) why)
+
   pub behind-end : k + 1 ≡ length why → take k why ++ map f (drop (k + 1) why) ≡ take k why
   behind-end h = let none : drop (k + 1) why ≡ [] = drop-of-length-le why {i = k + 1} (omega arith) in rw none (append-nil (take k why))
 
@@ -137,7 +142,7 @@ module _ (why : List ℕ) (i h j : ℕ) where
   pub shifted-long : (e : List ℕ) → length e ≡ length (take i (set (set why h 0) j 0)) → length (e ++ drop i (set (set why h 0) j 0)) ≡ length why
   shifted-long e k = length-front (set (set why h 0) j 0) e i k ∙ anew-long
 
-pub forgot : (why e new : List ℕ) (i h j low : ℕ) → i < length why → ((k : ℕ) → getD why k 0 < 2 ^ 32) → h ≡ previous (length why) i → j ≡ next (length why) i → low ≡ capped i
+forgot : (why e new : List ℕ) (i h j low : ℕ) → i < length why → ((k : ℕ) → getD why k 0 < 2 ^ 32) → h ≡ previous (length why) i → j ≡ next (length why) i → low ≡ capped i
     → e ≡ map (movedBy low) (take i (set (set why h 0) j 0))
     → take (length (e ++ drop i (set (set why h 0) j 0)) - 1) new ≡ take i (e ++ drop i (set (set why h 0) j 0)) ++ map (movedBy low) (drop (i + 1) (e ++ drop i (set (set why h 0) j 0)))
     → take (length why - 1) new ≡ without i why
@@ -148,6 +153,30 @@ forgot why e new i h j low hi fits eh ej cap shifted done =
     ap (λ (m : ℕ). take (m - 1) new) (sym same)
     ∙ moved-out i mid e new low (omega arith) (fits-anew j (set why h 0) (fits-anew h why fits)) cap shifted done
     ∙ rw (eh, ej)
+
+pub without-size : (i : ℕ) (why : List ℕ) → i < length why → length why - 1 ≡ length (without i why)
+unfolding without
+without-size i why h =
+    let long : length (anew i why) ≡ length why = anew-long why i (previous (length why) i) (next (length why) i) in
+    omega (arith, length-map (removeAt i (anew i why)) (moved i), removeAt-size (anew i why) i (omega arith), long)
+
+pub forgot-all : (why e new : List ℕ) (i h j low : ℕ) → i < length why → ((k : ℕ) → getD why k 0 < 2 ^ 32) → h ≡ previous (length why) i → j ≡ next (length why) i → low ≡ capped i
+    → e ≡ map (movedBy low) (take i (set (set why h 0) j 0)) → new ≡ over (movedBehind low i (e ++ drop i (set (set why h 0) j 0))) (e ++ drop i (set (set why h 0) j 0))
+    → new ≡ over (without i why) (anew i why)
+forgot-all why e new i h j low hi fits eh ej cap shifted done =
+    let mid = set (set why h 0) j 0 in
+    let mid-long : length mid ≡ length why = anew-long why i h j in
+    let many : length e ≡ i = ap length shifted ∙ length-map (take i mid) (movedBy low) ∙ length-take-le i mid (omega arith) in
+    let long : length (e ++ drop i mid) ≡ length why = shifted-long why i h j e (many ∙ sym (length-take-le i mid (omega arith))) in
+    let size : length (e ++ drop i mid) - 1 ≡ length (movedBehind low i (e ++ drop i mid)) = sym (behind-size (movedBy low) (e ++ drop i mid) i (omega arith)) in
+    let front = over-front _ new (e ++ drop i mid) _ size done in
+    let behind : drop (length why - 1) new ≡ drop (length why - 1) (e ++ drop i mid) = rw long at (over-behind _ new (e ++ drop i mid) _ size done) in
+    over-is (length why - 1) new (anew i why) (without i why) (without-size i why hi) (forgot why e new i h j low hi fits eh ej cap shifted front)
+    (behind ∙ behind-later i (length why - 1) (e ++ drop i mid) mid (omega arith) (drop-at e (drop i mid) i many) ∙ rw (eh, ej))
+
+-- the notes that are left are the first ones
+pub forgotten-front : (i : ℕ) (why new : List ℕ) → i < length why → new ≡ over (without i why) (anew i why) → take (length why - 1) new ≡ without i why
+forgotten-front i why new h e = over-front (length why - 1) new (anew i why) (without i why) (without-size i why h) e
 
 -- ---- the loops of `shift_all` and `forget_all`: places below k are done
 

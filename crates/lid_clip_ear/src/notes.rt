@@ -3,8 +3,9 @@
 // test j pass, and 2 j + 1 that test j fails besides.
 ghost use mathlib.Core.Path.{_≡_};
 ghost use mathlib.Core.List.{map};
-ghost use Prim.Native.Nat.{_+_, _-_, _<_};
-ghost use lib.ListN.{length, take, replicate};
+ghost use Prim.Native.Nat.{_+_, _<_};
+ghost use lib.ListN.{length, replicate};
+ghost use Rattle.lists.specs.Loops.{over};
 ghost use Rattle.lid_clip_ear.specs.Contract.Notes.{failedAt, capped, down, movedBy, movedBehind, PlaceForgotten};
 use lid::RingPlace;
 use lid_ring::place::place_after;
@@ -72,7 +73,7 @@ fn shift_all(why: &mut [u32], low: u32)
 // The same for the notes behind a place, which take the places before theirs; the last place keeps its note.
 fn shift_behind(why: &mut [u32], at: RingPlace, low: u32)
     requires { ⌜ at .0 < length (now why) ⌝ }
-    ensures { λ _. ⌜ take (length (now (why .entry)) - 1) (now (why .exit)) ≡ movedBehind low (at .0) (now (why .entry)) ⌝ }
+    ensures { λ _. ⌜ now (why .exit) ≡ over (movedBehind low (at .0) (now (why .entry))) (now (why .entry)) ⌝ }
 {
     let mut k = at.0;
     let last = why.len() - 1;

@@ -7,7 +7,7 @@ use Prim.Native.Nat.{ℕ, _+_, _-_, _*_}
 use lib.ListN.{length, set, take, drop}
 use lib.Dec.{ltb}
 use denote.Ref.{now}
-use Rattle.lists.specs.Loops.{next, previous, removeAt}
+use Rattle.lists.specs.Loops.{next, previous, removeAt, over}
 use Rattle.lists.specs.Slices.{Slice}
 
 -- the note where test j is the first to fail; where the number is too large for a note, the greatest that says only that tests pass
@@ -35,10 +35,14 @@ capped i = cond (ltb i 2147483647) (2 * i + 2) 4294967295
 abbrev pub movedBehind : ℕ → ℕ → List ℕ → List ℕ
 movedBehind low i why = take i why ++ map (movedBy low) (drop (i + 1) why)
 
+-- the notes where those of the neighbours of place i start anew
+abbrev pub anew : ℕ → List ℕ → List ℕ
+anew i why = set (set why (previous (length why) i) 0) (next (length why) i) 0
+
 -- the notes of a ring where the corner at place i is removed: those of its neighbours, whose triangles change, start anew, and the others move
 unfoldable pub without : ℕ → List ℕ → List ℕ
-without i why = map (moved i) (removeAt i (set (set why (previous (length why) i) 0) (next (length why) i) 0))
+without i why = map (moved i) (removeAt i (anew i why))
 
--- the notes in a lent slice became those; its last place is left over
+-- the notes in a lent slice became those; its last place, which is left over, keeps its note unless it is a neighbour's
 abbrev pub PlaceForgotten : ℕ → Slice ℕ → Type 0
-PlaceForgotten i why = take (length (now (why .entry)) - 1) (now (why .exit)) ≡ without i (now (why .entry))
+PlaceForgotten i why = now (why .exit) ≡ over (without i (now (why .entry))) (anew i (now (why .entry)))

@@ -2,7 +2,7 @@
 use mathlib.Core.Path.{sym, _∙_}
 use lib.Seq.{length-take-le}
 use borrow.Author.Needs.{needs}
-use Rattle.lid_clip_ear.proofs.NoteLaws.{in-anew, shifted-long, forgot}
+use Rattle.lid_clip_ear.proofs.NoteLaws.{in-anew, shifted-long, forgot-all}
 use Rattle.lid_clip_ear.proofs.notes.forget.Statement.{statement}
 use Rattle.lid_clip_ear.proofs.notes.forget.Tie as tie
 use denote.Ref.{now}
@@ -25,7 +25,7 @@ same-length c =
 returns : tie.Need-returns
 returns c =
     let a = c .before .before .before .before .before .before .before .before .before .before .before .before .args in
-    forgot (now (a .why)) (c .before .before .before .before .before .before .shift-all .last .0) (c .before .before .shift-behind .last .0) (a .at .0) (c .before .before .before .before .before .before .before .before .before .before .place-before .result .0) (c .before .before .before .before .before .before .before .before .before .place-after .result .0) (c .before .before .before .before .before .before .before .before .unmoved .result) (c .before .before .before .before .before .before .before .before .before .before .before .before .pre) (λ k. c .before .before .before .before .before .before .before .before .before .before .before .slice-known .given k .fits) (c .before .before .before .before .before .before .before .before .before .before .place-before .ensures .0) (c .before .before .before .before .before .before .before .before .before .place-after .ensures .0) (c .before .before .before .before .before .before .before .before .unmoved .ensures) (c .before .before .before .before .before .before .shift-all .ensures) (c .before .before .shift-behind .ensures)
+    forgot-all (now (a .why)) (c .before .before .before .before .before .before .shift-all .last .0) (c .before .before .shift-behind .last .0) (a .at .0) (c .before .before .before .before .before .before .before .before .before .before .place-before .result .0) (c .before .before .before .before .before .before .before .before .before .place-after .result .0) (c .before .before .before .before .before .before .before .before .unmoved .result) (c .before .before .before .before .before .before .before .before .before .before .before .before .pre) (λ k. c .before .before .before .before .before .before .before .before .before .before .before .slice-known .given k .fits) (c .before .before .before .before .before .before .before .before .before .before .place-before .ensures .0) (c .before .before .before .before .before .before .before .before .before .place-after .ensures .0) (c .before .before .before .before .before .before .before .before .unmoved .ensures) (c .before .before .before .before .before .before .shift-all .ensures) (c .before .before .shift-behind .ensures)
 
 pub forget-spec : {M : Type 1} → statement M
 forget-spec =
