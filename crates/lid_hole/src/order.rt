@@ -4,7 +4,7 @@ ghost use Prim.Native.Nat.{_+_, _-_, _<_, _≤_, _^_};
 ghost use lib.ListN.{length, getD, take};
 ghost use Rattle.float.specs.Number.{zerof};
 ghost use Rattle.lid.specs.Contract.Steps.{insertAt};
-ghost use Rattle.lid_hole.specs.Contract.Order.{insertBy, orderStep, orderOf, Ordered};
+ghost use Rattle.lid_hole.specs.Contract.Order.{insertBy, orderStep, orderOf, HolesOrdered};
 use lid_splice::insert;
 
 // A hole's greatest first coordinate, 0.0 past the last hole.
@@ -37,8 +37,8 @@ fn find_place(rights: &[f32], order: &[u32], g: u32) -> usize
 fn order_hole(rights: &[f32], small: &[bool], order: &mut [u32], c: usize, g: usize) -> usize
     requires { ⌜ c < length (now order) ⌝ }
     requires { ⌜ (g < length (now small)) × (g < 2 ^ 32) ⌝ }
-    ensures { λ r. ⌜ Ordered (orderStep (now (rights .entry)) (now (small .entry)) g (take c (now (order .entry)))) (now (order .exit)) r ⌝ }
-    ensures { λ r. ⌜ r ≤ c + 1 ⌝ }
+    ensures { λ r. ⌜ HolesOrdered (orderStep (now (rights .entry)) (now (small .entry)) g (take c (now (order .entry)))) order r ⌝ }
+    ensures { λ r. ⌜ (c ≤ r) × (r ≤ c + 1) ⌝ }
 {
     if small[g] {
         return c;
@@ -54,7 +54,7 @@ fn order_hole(rights: &[f32], small: &[bool], order: &mut [u32], c: usize, g: us
 pub fn order_holes(rights: &[f32], small: &[bool], order: &mut [u32]) -> usize
     requires { ⌜ length (now small) ≤ length (now order) ⌝ }
     requires { ⌜ length (now small) < 2 ^ 32 ⌝ }
-    ensures { λ r. ⌜ Ordered (orderOf (now (rights .entry)) (now (small .entry))) (now (order .exit)) r ⌝ }
+    ensures { λ r. ⌜ HolesOrdered (orderOf (now (rights .entry)) (now (small .entry))) order r ⌝ }
 {
     let mut c = 0;
     let mut g = 0;

@@ -30,6 +30,7 @@ use Rattle.lid.proofs.Facts.{joinAll-log, holes-each, rings-count}
 use Rattle.lid_hole.proofs.HoleLaws.{start-last}
 use Rattle.lid_triangulate.proofs.OrderLaws.{order-is, skips-are, order-joinable, order-adds, sum-two}
 use Rattle.lid_log.proofs.RecordLaws.{log-some}
+use Rattle.lid_ring.proofs.BufferLaws.{over-front}
 use Rattle.lid_splice.proofs.SpliceLaws.{front-back}
 
 -- a ring whose holes are joined, and then cut
@@ -101,17 +102,18 @@ module _ (outer : ℕ) (counts ring : List ℕ) (hole : ℕ) where
 
 module _ (fs : List Flat) (outer : ℕ) (counts : List ℕ) where
   -- what `prepare` does
-  pub prepare-done : (room : ℕ) (rights : List Float) (small : List Bool) (order log log₁ : List ℕ) (r : Prepared) → sumOf (λ i. i) counts ≤ room
+  pub prepare-done : (room : ℕ) (rights : List Float) (small : List Bool) (old order log log₁ : List ℕ) (r : Prepared) → sumOf (λ i. i) counts ≤ room
       → rights ≡ rightsOf fs outer counts → small ≡ smallOf fs outer counts → r .entries ≡ length (skips 0 (smallOf fs outer counts))
-      → log₁ ≡ logWith log 0 (skips 0 (smallOf fs outer counts)) → Ordered (orderOf rights small) order (r .holes) → Prepares fs outer counts room order log log₁ r
-  prepare-done room rights small order log log₁ r fits er es n w o =
-      let stands : take (r .holes) order ≡ orderOf (rightsOf fs outer counts) (smallOf fs outer counts) = rw (er, es) at (o .stands) in
+      → log₁ ≡ logWith log 0 (skips 0 (smallOf fs outer counts)) → Ordered (orderOf rights small) old order (r .holes) → Prepares fs outer counts room order log log₁ r
+  prepare-done room rights small old order log log₁ r fits er es n w o =
+      let front = over-front (r .holes) order old (orderOf rights small) (o .holes) (o .stands) in
+      let stands : take (r .holes) order ≡ orderOf (rightsOf fs outer counts) (smallOf fs outer counts) = rw (er, es) at front in
       let skipped = skips-are fs outer counts in
       record {
         written = rw skipped at w;
         entries = rw skipped at n;
         ordered = rw stands (order-is fs outer counts);
-        fewer = omega (arith, ap length (o .stands), o .holes, length-take (r .holes) order);
+        fewer = omega (arith, ap length front, o .holes, length-take (r .holes) order);
         joinable = rw stands (order-joinable fs outer counts room fits);
       }
 

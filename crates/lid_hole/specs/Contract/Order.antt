@@ -3,9 +3,11 @@ use Prim.Native.Nat.{ℕ}
 use mathlib.Core.Path.{_≡_}
 use mathlib.Core.Bool.{Bool, false, cond}
 use mathlib.Core.List.{List, [], _∷_}
-use lib.ListN.{length, getD, take}
+use lib.ListN.{length, getD}
 use lib.Ieee.{Float}
-use Rattle.lists.specs.Loops.{loop}
+use denote.Ref.{now}
+use Rattle.lists.specs.Loops.{loop, over}
+use Rattle.lists.specs.Slices.{Slice}
 use Rattle.float.specs.Number.{zerof}
 use Rattle.float.specs.Signs.{totalLess}
 
@@ -20,7 +22,11 @@ orderStep rights small g order = cond (getD small g false) order (insertBy right
 unfoldable pub orderOf : List Float → List Bool → List ℕ
 orderOf rights small = loop (orderStep rights small) (length small) 0 []
 
--- a number of holes stand in the front of a buffer in this order
-pub record Ordered (order buffer : List ℕ) (r : ℕ) : Type 0 where
-  pub stands : take r buffer ≡ order
+-- r holes were written in this order over the front of a buffer
+pub record Ordered (order buffer buffer′ : List ℕ) (r : ℕ) : Type 0 where
+  pub stands : buffer′ ≡ over order buffer
   pub holes : r ≡ length order
+
+-- the same of a lent slice
+abbrev pub HolesOrdered : List ℕ → Slice ℕ → ℕ → Type 0
+HolesOrdered order s r = Ordered order (now (s .entry)) (now (s .exit)) r

@@ -42,7 +42,7 @@ returns c =
     let a = c .before .before .before .before .before .before .before .before .before .before .before .before .before .before .before .before .before .before .before .before .before .before .before .args in
     let s = c .before .before .before .before .before .before .before .before .before .before .before .before .survey in
     let o = c .before .before .order-holes in
-    prepare-done (flats (now (a .xs)) (now (a .ys))) (a .outer) (now (a .counts)) (length (now (a .hole))) (take (length (now (a .counts))) (s .last .1 .1 .1 .1 .1 .0)) (take (length (now (a .counts))) (s .last .1 .1 .1 .1 .1 .1 .0)) (o .last .1 .1 .0) (now (a .log)) (s .last .1 .1 .1 .1 .1 .1 .1 .0) _ (c .before .before .before .before .before .before .before .before .before .before .before .before .before .before .before .before .before .before .before .before .before .before .before .pre .1 .0) (s .ensures .0) (s .ensures .1 .0) (s .ensures .1 .1 .0) (s .ensures .1 .1 .1) (o .ensures)
+    prepare-done (flats (now (a .xs)) (now (a .ys))) (a .outer) (now (a .counts)) (length (now (a .hole))) (take (length (now (a .counts))) (s .last .1 .1 .1 .1 .1 .0)) (take (length (now (a .counts))) (s .last .1 .1 .1 .1 .1 .1 .0)) _ (o .last .1 .1 .0) (now (a .log)) (s .last .1 .1 .1 .1 .1 .1 .1 .0) _ (c .before .before .before .before .before .before .before .before .before .before .before .before .before .before .before .before .before .before .before .before .before .before .before .pre .1 .0) (s .ensures .0) (s .ensures .1 .0) (s .ensures .1 .1 .0) (s .ensures .1 .1 .1) (o .ensures)
 
 pub prepare-spec : {M : Type 1} → statement M
 prepare-spec =

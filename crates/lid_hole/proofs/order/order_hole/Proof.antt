@@ -12,7 +12,7 @@ use denote.Ref.{now}
 returns : tie.Need-returns
 returns c =
     let a = c .before .before .before .before .before .args in
-    (order-skip (now (a .rights)) (now (a .small)) (a .g) (now (a .order)) (a .c) (omega arith) (c .if1 .taken), omega arith)
+    (order-skip (now (a .rights)) (now (a .small)) (a .g) (now (a .order)) (a .c) (omega arith) (c .if1 .taken), (omega arith, omega arith))
 
 slice-aggregate-find-place : tie.Need-slice-aggregate-find-place
 slice-aggregate-find-place c = sym (length-take-le _ _ (omega arith))
@@ -28,7 +28,7 @@ insert-requires c κs =
 returns-2 : tie.Need-returns-2
 returns-2 c =
     let a = c .before .before .before .before .before .before .before .before .before .before .before .args in
-    (order-put (now (a .rights)) (now (a .small)) (a .g) (now (a .order)) (a .c) (omega arith) (c .before .before .before .before .find-place .result) _ (c .before .before .before .before .before .before .if1 .left) (c .before .before .before .before .find-place .ensures .1) (c .before .before .before .before .find-place .ensures .0) (c .before .before .insert .kept .0) (c .before .before .insert .ensures), omega arith)
+    (order-put (now (a .rights)) (now (a .small)) (a .g) (now (a .order)) (a .c) (omega arith) (c .before .before .before .before .find-place .result) _ (c .before .before .before .before .before .before .if1 .left) (c .before .before .before .before .find-place .ensures .1) (c .before .before .before .before .find-place .ensures .0) (c .before .before .insert .kept .0) (c .before .before .insert .ensures), (omega arith, omega arith))
 
 pub order-hole-spec : {M : Type 1} → statement M
 order-hole-spec =
