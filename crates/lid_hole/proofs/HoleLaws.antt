@@ -1,5 +1,5 @@
 -- The holes by their numbers: where their corners start, and what is written of each. Assumes nothing.
-use mathlib.Core.Path.{_≡_, refl, ap, ap₂, _∙_}
+use mathlib.Core.Path.{_≡_, sym, ap, ap₂, _∙_}
 use mathlib.Core.Bool.{Bool, false}
 use mathlib.Core.List.{List, [], _∷_, _++_}
 use Prim.Native.Nat.{ℕ, _+_, _<_, _≤_}
@@ -7,8 +7,8 @@ use native.Mathlib.Nat.{add-zero, le-refl}
 use native.Mathlib.Numerals.{add-one}
 use native.Mathlib.Omega.{arith}
 use lib.ListN.{length, getD, take, drop, take-append-drop}
-use lib.Seq.{take-suc, take-all, length-take-le}
-use Rattle.lists.specs.Loops.{sumOf}
+use lib.Seq.{take-suc, take-all, take-at, drop-at, length-take-le}
+use Rattle.lists.specs.Loops.{sumOf, over}
 use Rattle.lists.proofs.Lists.{sum-append, length-list}
 use Rattle.lid.specs.declared.Flat.{Flat}
 use Rattle.lid.specs.Rings.{tooSmall, turnHole}
@@ -16,8 +16,8 @@ use Rattle.lid.specs.Contract.Written.{cornerTotal}
 use Rattle.lid.specs.Contract.Steps.{turned}
 use Rattle.lid_hole.specs.Contract.Holes.{holeStart, holeCorners}
 use Rattle.lid.proofs.Areas.Lid.{turnHole-length}
+use Rattle.lid_ring.proofs.BufferLaws.{over-is, over-front}
 use Rattle.lid_ring.proofs.RingLaws.{up}
-use Rattle.lid_splice.proofs.SpliceLaws.{front-back}
 
 -- ---- where a hole's corners start
 
@@ -57,9 +57,17 @@ module _ (outer : ℕ) (counts : List ℕ) where
     hole-small r e = e ∙ ap (tooSmall fs) corners-are
 
     pub hole-written : (x : List ℕ) → length x ≡ length (take h hole) → x ≡ turned false fs (up from (length (take h hole)))
-        → take h (x ++ drop h hole) ≡ turnHole fs (holeCorners outer counts g)
-    hole-written x same e = front-back hole x h h refl fits same ∙ e ∙ ap (turnHole fs) corners-are
+        → x ++ drop h hole ≡ over (turnHole fs (holeCorners outer counts g)) hole
+    hole-written x same e =
+        let is : x ≡ turnHole fs (holeCorners outer counts g) = e ∙ ap (turnHole fs) corners-are in
+        let long : length x ≡ h = same ∙ length-take-le h hole fits in
+        over-is h (x ++ drop h hole) hole (turnHole fs (holeCorners outer counts g)) (sym long ∙ ap length is) (take-at x (drop h hole) h long ∙ is) (drop-at x (drop h hole) h long)
 
 pub hole-size : (fs : List Flat) (outer : ℕ) (counts : List ℕ) (g : ℕ) → length (turnHole fs (holeCorners outer counts g)) ≡ getD counts g 0
 unfolding holeCorners
 hole-size fs outer counts g = turnHole-length fs (holeCorners outer counts g) ∙ length-list (λ i. i) (getD counts g 0) _
+
+-- its corners are read from the first places of the buffer
+pub hole-front : (fs : List Flat) (outer : ℕ) (counts : List ℕ) (g : ℕ) (hole hole′ : List ℕ) → hole′ ≡ over (turnHole fs (holeCorners outer counts g)) hole
+    → take (getD counts g 0) hole′ ≡ turnHole fs (holeCorners outer counts g)
+hole-front fs outer counts g hole hole′ e = over-front (getD counts g 0) hole′ hole (turnHole fs (holeCorners outer counts g)) (sym (hole-size fs outer counts g)) e

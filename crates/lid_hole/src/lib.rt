@@ -5,7 +5,8 @@ pub mod survey;
 
 ghost use mathlib.Core.Path.{_≡_};
 ghost use Prim.Native.Nat.{_<_, _≤_, _^_};
-ghost use lib.ListN.{length, getD, take};
+ghost use lib.ListN.{length, getD};
+ghost use Rattle.lists.specs.Loops.{over};
 ghost use Rattle.lid.specs.Rings.{tooSmall};
 ghost use Rattle.lid.specs.Contract.Rings.{flatsIn};
 ghost use Rattle.lid.specs.Contract.Written.{cornerTotal};
@@ -40,7 +41,7 @@ pub fn write_hole(
     requires { ⌜ cornerTotal outer (now counts) < 2 ^ 32 ⌝ }
     requires { ⌜ getD (now counts) g 0 ≤ length (now hole) ⌝ }
     ensures { λ r. ⌜ r ≡ tooSmall (flatsIn xs ys) (holeCorners outer (now (counts .entry)) g) ⌝ }
-    ensures { λ _. ⌜ take (getD (now (counts .entry)) g 0) (now (hole .exit)) ≡ holeRing (flatsIn xs ys) outer (now (counts .entry)) g ⌝ }
+    ensures { λ _. ⌜ now (hole .exit) ≡ over (holeRing (flatsIn xs ys) outer (now (counts .entry)) g) (now (hole .entry)) ⌝ }
 {
     let h = counts[g] as usize;
     let from = hole_start(outer, counts, g);

@@ -2,12 +2,12 @@
 ghost use mathlib.Core.Path.{_≡_};
 ghost use mathlib.Core.List.{_∷_, []};
 ghost use Prim.Native.Nat.{_+_, _<_, _≤_, _^_};
-ghost use lib.ListN.{length, getD, take};
-ghost use Rattle.lists.specs.Loops.{sumOf};
+ghost use lib.ListN.{length, getD};
+ghost use Rattle.lists.specs.Loops.{sumOf, over};
 ghost use Rattle.lid.specs.Rings.{tooSmall, right};
 ghost use Rattle.lid.specs.Contract.Rings.{flatsIn};
 ghost use Rattle.lid.specs.Contract.Written.{logWith, cornerTotal};
-ghost use Rattle.lid_hole.specs.Contract.Holes.{holeCorners, holeRing, rightsOf, smallOf, skips, allSkips};
+ghost use Rattle.lid_hole.specs.Contract.Holes.{holeCorners, holeRing, rightsOf, smallOf, allHolesOver, skips, allSkips};
 use crate::write_hole;
 use lid::Surveyed;
 use lid_log::put_entry;
@@ -26,6 +26,7 @@ fn survey_hole(
     requires { ⌜ getD (now counts) g 0 ≤ length (now hole) ⌝ }
     ensures { λ r. ⌜ r .right ≡ right (flatsIn xs ys) (holeRing (flatsIn xs ys) outer (now (counts .entry)) g) ⌝ }
     ensures { λ r. ⌜ r .small ≡ tooSmall (flatsIn xs ys) (holeCorners outer (now (counts .entry)) g) ⌝ }
+    ensures { λ _. ⌜ now (hole .exit) ≡ over (holeRing (flatsIn xs ys) outer (now (counts .entry)) g) (now (hole .entry)) ⌝ }
 {
     let small = write_hole(xs, ys, outer, counts, hole, g);
     let h = counts[g] as usize;
@@ -61,10 +62,11 @@ pub fn survey(
     requires { ⌜ (cornerTotal outer (now counts) < 2 ^ 32) × (length (now counts) < 2 ^ 31) ⌝ }
     requires { ⌜ sumOf (λ n. n) (now counts) ≤ length (now hole) ⌝ }
     requires { ⌜ (length (now counts) ≤ length (now rights)) × (length (now counts) ≤ length (now small)) ⌝ }
-    ensures { λ _. ⌜ take (length (now (counts .entry))) (now (rights .exit)) ≡ rightsOf (flatsIn xs ys) outer (now (counts .entry)) ⌝ }
-    ensures { λ _. ⌜ take (length (now (counts .entry))) (now (small .exit)) ≡ smallOf (flatsIn xs ys) outer (now (counts .entry)) ⌝ }
+    ensures { λ _. ⌜ now (rights .exit) ≡ over (rightsOf (flatsIn xs ys) outer (now (counts .entry))) (now (rights .entry)) ⌝ }
+    ensures { λ _. ⌜ now (small .exit) ≡ over (smallOf (flatsIn xs ys) outer (now (counts .entry))) (now (small .entry)) ⌝ }
     ensures { λ r. ⌜ r ≡ length (allSkips (flatsIn xs ys) outer (now (counts .entry))) ⌝ }
     ensures { λ _. ⌜ now (log .exit) ≡ logWith (now (log .entry)) 0 (allSkips (flatsIn xs ys) outer (now (counts .entry))) ⌝ }
+    ensures { λ _. ⌜ now (hole .exit) ≡ allHolesOver (flatsIn xs ys) outer (now (counts .entry)) (now (hole .entry)) ⌝ }
 {
     let mut n = 0;
     let mut g = 0;

@@ -4,7 +4,7 @@ use mathlib.Core.Bool.{Bool, cond}
 use mathlib.Core.List.{List, [], _∷_, map}
 use lib.ListN.{length, getD, take}
 use lib.Ieee.{Float}
-use Rattle.lists.specs.Loops.{list, sumOf}
+use Rattle.lists.specs.Loops.{fold, list, sumOf, over}
 use Rattle.lid.specs.declared.Flat.{Flat}
 use Rattle.lid.specs.Log.{Entry, entry}
 use Rattle.lid.specs.Rings.{Hole, turnHole, tooSmall, right}
@@ -33,6 +33,13 @@ rightsOf fs outer counts = list (λ g. right fs (holeRing fs outer counts g)) (l
 
 abbrev pub smallOf : List Flat → ℕ → List ℕ → List Bool
 smallOf fs outer counts = list (λ g. tooSmall fs (holeCorners outer counts g)) (length counts) 0
+
+-- a buffer to whose front the holes of some numbers were written, one after the other; all holes
+abbrev pub holesOver : List Flat → ℕ → List ℕ → List ℕ → List ℕ → List ℕ
+holesOver fs outer counts gs hole = fold (λ (h : List ℕ) (g : ℕ). over (holeRing fs outer counts g) h) hole gs
+
+abbrev pub allHolesOver : List Flat → ℕ → List ℕ → List ℕ → List ℕ
+allHolesOver fs outer counts hole = holesOver fs outer counts (list (λ g. g) (length counts) 0) hole
 
 -- an entry for each hole that is skipped, from hole g on
 unfoldable pub skips : ℕ → List Bool → List Entry

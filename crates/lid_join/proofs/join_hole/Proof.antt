@@ -5,6 +5,7 @@ use native.Mathlib.Omega.{arith}
 use lib.ListN.{getD}
 use lib.Seq.{length-take-le}
 use borrow.Author.Needs.{needs}
+use Rattle.lid_hole.proofs.HoleLaws.{hole-front}
 use Rattle.lid_join.proofs.join_hole.Statement.{statement}
 use Rattle.lid_join.proofs.join_hole.Tie as tie
 use denote.Ref.{now}
@@ -18,7 +19,7 @@ join-requires c κs =
     omega (arith, length-take-le (getD (now (a .counts)) (a .g) 0) (c .before .before .before .before .before .before .write-hole .last .1 .1 .1 .1 .0) (omega arith))
 
 returns : tie.Need-returns
-returns c = rw (c .before .before .before .before .before .before .before .before .before .before .before .write-hole .ensures .1) at (c .before .before .before .before .join .ensures)
+returns c = rw (hole-front _ _ _ _ _ _ (c .before .before .before .before .before .before .before .before .before .before .before .write-hole .ensures .1)) at (c .before .before .before .before .join .ensures)
 
 pub join-hole-spec : {M : Type 1} → statement M
 join-hole-spec =

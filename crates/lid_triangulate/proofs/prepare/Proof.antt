@@ -6,6 +6,8 @@ use lib.Seq.{length-take-le}
 use borrow.Author.Needs.{needs}
 use Rattle.lid_triangulate.proofs.LidLaws.{still, few-low, front-few, front-low, prepare-done}
 use Rattle.lid.specs.Contract.Rings.{flats}
+use Rattle.lid_ring.proofs.BufferLaws.{over-front}
+use Rattle.lists.proofs.Lists.{length-list}
 use Rattle.lid_triangulate.proofs.prepare.Statement.{statement}
 use Rattle.lid_triangulate.proofs.prepare.Tie as tie
 use denote.Ref.{now}
@@ -42,7 +44,7 @@ returns c =
     let a = c .before .before .before .before .before .before .before .before .before .before .before .before .before .before .before .before .before .before .before .before .before .before .before .args in
     let s = c .before .before .before .before .before .before .before .before .before .before .before .before .survey in
     let o = c .before .before .order-holes in
-    prepare-done (flats (now (a .xs)) (now (a .ys))) (a .outer) (now (a .counts)) (length (now (a .hole))) (take (length (now (a .counts))) (s .last .1 .1 .1 .1 .1 .0)) (take (length (now (a .counts))) (s .last .1 .1 .1 .1 .1 .1 .0)) _ (o .last .1 .1 .0) (now (a .log)) (s .last .1 .1 .1 .1 .1 .1 .1 .0) _ (c .before .before .before .before .before .before .before .before .before .before .before .before .before .before .before .before .before .before .before .before .before .before .before .pre .1 .0) (s .ensures .0) (s .ensures .1 .0) (s .ensures .1 .1 .0) (s .ensures .1 .1 .1) (o .ensures)
+    prepare-done (flats (now (a .xs)) (now (a .ys))) (a .outer) (now (a .counts)) (length (now (a .hole))) (take (length (now (a .counts))) (s .last .1 .1 .1 .1 .1 .0)) (take (length (now (a .counts))) (s .last .1 .1 .1 .1 .1 .1 .0)) _ (o .last .1 .1 .0) (now (a .log)) (s .last .1 .1 .1 .1 .1 .1 .1 .0) _ (c .before .before .before .before .before .before .before .before .before .before .before .before .before .before .before .before .before .before .before .before .before .before .before .pre .1 .0) (over-front _ _ _ _ (sym (length-list _ _ _)) (s .ensures .0)) (over-front _ _ _ _ (sym (length-list _ _ _)) (s .ensures .1 .0)) (s .ensures .1 .1 .0) (s .ensures .1 .1 .1 .0) (o .ensures)
 
 pub prepare-spec : {M : Type 1} → statement M
 prepare-spec =

@@ -4,6 +4,7 @@ use Prim.Native.Nat.{_-_}
 use native.Mathlib.Omega.{arith}
 use lib.Seq.{length-take-le}
 use borrow.Author.Needs.{needs}
+use Rattle.lid_hole.proofs.HoleLaws.{hole-front}
 use Rattle.lid_hole.proofs.survey.survey_hole.Statement.{statement}
 use Rattle.lid_hole.proofs.survey.survey_hole.Tie as tie
 
@@ -11,7 +12,9 @@ slice-aggregate-right : tie.Need-slice-aggregate-right
 slice-aggregate-right c = sym (length-take-le _ _ (omega arith))
 
 returns : tie.Need-returns
-returns c = (rw (c .before .before .before .before .before .write-hole .ensures .1) at (c .right .ensures), c .before .before .before .before .before .write-hole .ensures .0)
+returns c =
+    let w = c .before .before .before .before .before .write-hole .ensures in
+    (rw (hole-front _ _ _ _ _ _ (w .1)) at (c .right .ensures), w)
 
 pub survey-hole-spec : {M : Type 1} → statement M
 survey-hole-spec =
