@@ -1,10 +1,12 @@
 // Holes joined to the ring, one after the other.
+ghost use mathlib.Core.Path.{_≡_};
 ghost use Prim.Native.Nat.{_+_, _<_, _≤_, _^_};
 ghost use lib.ListN.{length, getD};
 ghost use Rattle.lists.specs.Each.{Each};
+ghost use Rattle.lists.specs.Loops.{over};
 ghost use Rattle.lid.specs.Contract.Rings.{flatsIn};
 ghost use Rattle.lid.specs.Contract.Written.{cornerTotal};
-ghost use Rattle.lid_hole.specs.Contract.Holes.{holeRing, holesNumbered, Joinable};
+ghost use Rattle.lid_hole.specs.Contract.Holes.{holeRing, holesNumbered, holesOver, Joinable};
 ghost use Rattle.lid_join.specs.Contract.Joined.{HoleJoined, HolesJoined, placesJoined};
 use lid::Bridged;
 use lid_bridge::bridge;
@@ -57,6 +59,7 @@ fn join_hole(
     requires { ⌜ Joinable (now counts) (length (now hole)) g ⌝ }
     requires { ⌜ (m + getD (now counts) g 0 + 2 ≤ length (now ring)) × (length (now ring) < 2 ^ 32) ⌝ }
     ensures { λ r. ⌜ HoleJoined (flatsIn xs ys) (holeRing (flatsIn xs ys) outer (now (counts .entry)) g) g ring m log n r ⌝ }
+    ensures { λ _. ⌜ now (hole .exit) ≡ over (holeRing (flatsIn xs ys) outer (now (counts .entry)) g) (now (hole .entry)) ⌝ }
 {
     let k = g as usize;
     write_hole(xs, ys, outer, counts, hole, k);
@@ -81,6 +84,7 @@ pub fn join_holes(
     requires { ⌜ Each (Joinable (now counts) (length (now hole))) (now order) ⌝ }
     requires { ⌜ (m + placesJoined (now counts) (now order) ≤ length (now ring)) × (length (now ring) < 2 ^ 32) × (n + length (now order) < 2 ^ 32) ⌝ }
     ensures { λ r. ⌜ HolesJoined (flatsIn xs ys) (holesNumbered (flatsIn xs ys) outer (now (counts .entry)) (now (order .entry))) ring m log n r ⌝ }
+    ensures { λ _. ⌜ now (hole .exit) ≡ holesOver (flatsIn xs ys) outer (now (counts .entry)) (now (order .entry)) (now (hole .entry)) ⌝ }
 {
     let mut places = m;
     let mut entries = n;

@@ -34,9 +34,12 @@ use Rattle.lid_ring.proofs.BufferLaws.{over-front}
 use Rattle.lid_splice.proofs.SpliceLaws.{front-back}
 
 -- a ring whose holes are joined, and then cut
-module _ (fs : List Flat) (hs : List Hole) (ring ring′ log log₁ : List ℕ) (n m : ℕ) (joined : JoinsAll (joinAll fs hs ring) ring′ log log₁ n m) where
+module _ (fs : List Flat) (hs : List Hole) (ring buffer ring′ log log₁ : List ℕ) (n m : ℕ) (joined : JoinsAll (joinAll fs hs ring) buffer ring′ log log₁ n m) where
+  joined-front : take m ring′ ≡ joinAll fs hs ring .ring
+  joined-front = over-front m ring′ buffer (joinAll fs hs ring .ring) (joined .places) (joined .joined)
+
   pub joined-fits : m ≤ length ring′
-  joined-fits = omega (arith, ap length (joined .joined), joined .places, length-take m ring′)
+  joined-fits = omega (arith, ap length joined-front, joined .places, length-take m ring′)
 
   pub joined-room : (k long hole hole′ : ℕ) → length ring′ ≡ long → hole′ ≡ hole → n + k + long + 1 < 2 ^ 32 → long ≤ hole
       → (n + k + length (take m ring′) + 1 < 2 ^ 32) × (length (take m ring′) ≤ hole′)
@@ -50,7 +53,7 @@ module _ (fs : List Flat) (hs : List Hole) (ring ring′ log log₁ : List ℕ) 
   joined-draws log₂ triangles triangles₂ k r count drew =
       let j = joinAll fs hs ring in
       let es : List Entry = ringEntries (clip fs (length (j .ring)) (j .ring)) in
-      let d : WritesLid es (openTriangles fs j) log₁ log₂ (n + k) triangles triangles₂ r = rw (joined .joined) at drew in
+      let d : WritesLid es (openTriangles fs j) log₁ log₂ (n + k) triangles triangles₂ r = rw joined-front at drew in
       let many : k ≡ length (j .log) = count ∙ sym (joinAll-log fs (λ i. []) hs ring) in
       record {
         written = d .written ∙ log-some log log₁ _ n (n + k) (j .log) es (joined .written) (ap (λ (i : ℕ). n + i) many) refl;

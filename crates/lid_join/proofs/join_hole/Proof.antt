@@ -19,7 +19,9 @@ join-requires c κs =
     omega (arith, length-take-le (getD (now (a .counts)) (a .g) 0) (c .before .before .before .before .before .before .write-hole .last .1 .1 .1 .1 .0) (omega arith))
 
 returns : tie.Need-returns
-returns c = rw (hole-front _ _ _ _ _ _ (c .before .before .before .before .before .before .before .before .before .before .before .write-hole .ensures .1)) at (c .before .before .before .before .join .ensures)
+returns c =
+    let w = c .before .before .before .before .before .before .before .before .before .before .before .write-hole .ensures .1 in
+    (rw (hole-front _ _ _ _ _ _ w) at (c .before .before .before .before .join .ensures), w)
 
 pub join-hole-spec : {M : Type 1} → statement M
 join-hole-spec =

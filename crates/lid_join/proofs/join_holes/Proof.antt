@@ -2,7 +2,7 @@
 use Prim.Native.Nat.{_-_}
 use native.Mathlib.Omega.{arith}
 use lib.ListN.{length}
-use Rattle.lid_join.proofs.JoinLaws.{Joining, join-start, join-again, join-end, next-fit, next-room}
+use Rattle.lid_join.proofs.JoinLaws.{Joining, join-start, join-again, join-end, join-room, next-fit, next-room}
 use Rattle.lid.specs.Contract.Rings.{flats}
 use Rattle.lid_join.proofs.join_holes.Statement.{statement}
 use Rattle.lid_join.proofs.join_holes.Tie as tie
@@ -27,7 +27,7 @@ join-hole-requires c κs =
 loop-again : tie.Need-loop-again Inv-loop μ-loop
 loop-again c =
     let a = c .before .before .before .before .before .before .before .before .before .before .before .before .before .before .before .before .before .before .before .before .args in
-    join-again (flats (now (a .xs)) (now (a .ys))) (a .outer) (now (a .counts)) (now (a .order)) (now (a .ring)) (now (a .hole)) (now (a .log)) (a .m) (a .n) (c .before .before .before .before .before .before .before .before .before .before .before .before .loop .ring) (c .before .before .before .before .before .before .before .before .before .before .before .before .loop .hole) (c .before .before .before .before .before .before .before .before .before .before .before .before .loop .log) (c .before .before .before .before .before .before .before .before .before .before .before .before .loop .places) (c .before .before .before .before .before .before .before .before .before .before .before .before .loop .entries) (c .before .before .before .before .before .before .before .before .before .before .before .before .loop .p) (c .before .before .before .before .before .before .before .before .before .before .before .before .loop .inv) (c .before .before .before .before .before .before .before .before .before .before .before .loop-test .taken) _ _ _ _ (c .before .before .before .before .before .before .join-hole .kept .1 .1 .1 .1 .0) (c .before .before .before .before .before .before .join-hole .kept .1 .1 .1 .1 .1 .1 .0) (c .before .before .before .before .before .before .join-hole .kept .1 .1 .1 .1 .1 .1 .1 .0) (c .before .before .before .before .before .before .join-hole .ensures)
+    join-again (flats (now (a .xs)) (now (a .ys))) (a .outer) (now (a .counts)) (now (a .order)) (now (a .ring)) (now (a .hole)) (now (a .log)) (a .m) (a .n) (c .before .before .before .before .before .before .before .before .before .before .before .before .loop .ring) (c .before .before .before .before .before .before .before .before .before .before .before .before .loop .hole) (c .before .before .before .before .before .before .before .before .before .before .before .before .loop .log) (c .before .before .before .before .before .before .before .before .before .before .before .before .loop .places) (c .before .before .before .before .before .before .before .before .before .before .before .before .loop .entries) (c .before .before .before .before .before .before .before .before .before .before .before .before .loop .p) (c .before .before .before .before .before .before .before .before .before .before .before .before .loop .inv) (c .before .before .before .before .before .before .before .before .before .before .before .loop-test .taken) _ _ _ _ (c .before .before .before .before .before .before .join-hole .kept .1 .1 .1 .1 .0) (c .before .before .before .before .before .before .join-hole .kept .1 .1 .1 .1 .1 .1 .0) (c .before .before .before .before .before .before .join-hole .kept .1 .1 .1 .1 .1 .1 .1 .0) (c .before .before .before .before .before .before .join-hole .ensures .0) (c .before .before .before .before .before .before .join-hole .ensures .1)
 
 same-length : tie.Need-same-length Inv-loop μ-loop
 same-length c = c .before .loop .inv .ring-long
@@ -41,7 +41,7 @@ same-length-3 c = c .before .loop .inv .log-long
 returns : tie.Need-returns Inv-loop μ-loop
 returns c =
     let a = c .before .before .before .before .before .before .before .before .before .args in
-    join-end (flats (now (a .xs)) (now (a .ys))) (a .outer) (now (a .counts)) (now (a .order)) (now (a .ring)) (now (a .hole)) (now (a .log)) (a .m) (a .n) (c .before .loop .ring) (c .before .loop .hole) (c .before .loop .log) (c .before .loop .places) (c .before .loop .entries) (c .before .loop .p) (c .before .loop .inv) (c .loop-test .left)
+    (join-end (flats (now (a .xs)) (now (a .ys))) (a .outer) (now (a .counts)) (now (a .order)) (now (a .ring)) (now (a .hole)) (now (a .log)) (a .m) (a .n) (c .before .loop .ring) (c .before .loop .hole) (c .before .loop .log) (c .before .loop .places) (c .before .loop .entries) (c .before .loop .p) (c .before .loop .inv) (c .loop-test .left), join-room (flats (now (a .xs)) (now (a .ys))) (a .outer) (now (a .counts)) (now (a .order)) (now (a .ring)) (now (a .hole)) (now (a .log)) (a .m) (a .n) (c .before .loop .ring) (c .before .loop .hole) (c .before .loop .log) (c .before .loop .places) (c .before .loop .entries) (c .before .loop .p) (c .before .loop .inv) (c .loop-test .left))
 
 pub join-holes-spec : {M : Type 1} → statement M
 join-holes-spec =

@@ -35,13 +35,13 @@ slice-relend-prefix-cut-ring : tie.Need-slice-relend-prefix-cut-ring
 slice-relend-prefix-cut-ring c =
     let a = c .before .before .before .before .before .before .before .before .before .before .before .before .before .before .before .before .before .before .before .before .before .before .before .before .before .before .before .args in
     let j = c .before .before .before .before .before .before .join-holes in
-    joined-fits (flats (now (a .xs)) (now (a .ys))) (map (holeAt (flats (now (a .xs)) (now (a .ys))) (a .outer) (now (a .counts))) (take (c .before .before .before .before .before .before .before .before .before .before .before .before .before .before .before .before .prepare .result .holes) (c .before .before .before .before .before .before .before .before .before .before .before .before .before .before .before .before .prepare .last .1 .1 .1 .1 .1 .0))) (take (a .outer) (now (a .ring))) (j .last .1 .1 .1 .1 .1 .0) (c .before .before .before .before .before .before .before .before .before .before .before .before .before .before .before .before .prepare .last .1 .1 .1 .1 .1 .1 .0) (j .last .1 .1 .1 .1 .1 .1 .1 .1 .0) (c .before .before .before .before .before .before .before .before .before .before .before .before .before .before .before .before .prepare .result .entries) (j .result) (j .ensures)
+    joined-fits (flats (now (a .xs)) (now (a .ys))) (map (holeAt (flats (now (a .xs)) (now (a .ys))) (a .outer) (now (a .counts))) (take (c .before .before .before .before .before .before .before .before .before .before .before .before .before .before .before .before .prepare .result .holes) (c .before .before .before .before .before .before .before .before .before .before .before .before .before .before .before .before .prepare .last .1 .1 .1 .1 .1 .0))) (take (a .outer) (now (a .ring))) (now (a .ring)) (j .last .1 .1 .1 .1 .1 .0) (c .before .before .before .before .before .before .before .before .before .before .before .before .before .before .before .before .prepare .last .1 .1 .1 .1 .1 .1 .0) (j .last .1 .1 .1 .1 .1 .1 .1 .1 .0) (c .before .before .before .before .before .before .before .before .before .before .before .before .before .before .before .before .prepare .result .entries) (j .result) (j .ensures .0)
 
 slice-aggregate-cut-ring : tie.Need-slice-aggregate-cut-ring
 slice-aggregate-cut-ring c =
     let a = c .before .before .before .before .before .before .before .before .before .before .before .before .before .before .before .before .before .before .before .before .before .before .before .before .before .before .before .before .args in
     let j = c .before .before .before .before .before .before .before .join-holes in
-    sym (length-take-le (j .result) (j .last .1 .1 .1 .1 .1 .0) (joined-fits (flats (now (a .xs)) (now (a .ys))) (map (holeAt (flats (now (a .xs)) (now (a .ys))) (a .outer) (now (a .counts))) (take (c .before .before .before .before .before .before .before .before .before .before .before .before .before .before .before .before .before .prepare .result .holes) (c .before .before .before .before .before .before .before .before .before .before .before .before .before .before .before .before .before .prepare .last .1 .1 .1 .1 .1 .0))) (take (a .outer) (now (a .ring))) (j .last .1 .1 .1 .1 .1 .0) (c .before .before .before .before .before .before .before .before .before .before .before .before .before .before .before .before .before .prepare .last .1 .1 .1 .1 .1 .1 .0) (j .last .1 .1 .1 .1 .1 .1 .1 .1 .0) (c .before .before .before .before .before .before .before .before .before .before .before .before .before .before .before .before .before .prepare .result .entries) (j .result) (j .ensures)))
+    sym (length-take-le (j .result) (j .last .1 .1 .1 .1 .1 .0) (joined-fits (flats (now (a .xs)) (now (a .ys))) (map (holeAt (flats (now (a .xs)) (now (a .ys))) (a .outer) (now (a .counts))) (take (c .before .before .before .before .before .before .before .before .before .before .before .before .before .before .before .before .before .prepare .result .holes) (c .before .before .before .before .before .before .before .before .before .before .before .before .before .before .before .before .before .prepare .last .1 .1 .1 .1 .1 .0))) (take (a .outer) (now (a .ring))) (now (a .ring)) (j .last .1 .1 .1 .1 .1 .0) (c .before .before .before .before .before .before .before .before .before .before .before .before .before .before .before .before .before .prepare .last .1 .1 .1 .1 .1 .1 .0) (j .last .1 .1 .1 .1 .1 .1 .1 .1 .0) (c .before .before .before .before .before .before .before .before .before .before .before .before .before .before .before .before .before .prepare .result .entries) (j .result) (j .ensures .0)))
 
 add-cut-ring : tie.Need-add-cut-ring
 add-cut-ring c =
@@ -60,7 +60,7 @@ cut-ring-requires c κs =
     let a = c .before .before .before .before .before .before .before .before .before .before .before .before .before .before .before .before .before .before .before .before .before .before .before .before .before .before .before .before .before .before .before .before .args in
     let p = c .before .before .before .before .before .before .before .before .before .before .before .before .before .before .before .before .before .before .before .before .before .prepare in
     let j = c .before .before .before .before .before .before .before .before .before .before .before .join-holes in
-    joined-room (flats (now (a .xs)) (now (a .ys))) (map (holeAt (flats (now (a .xs)) (now (a .ys))) (a .outer) (now (a .counts))) (take (p .result .holes) (p .last .1 .1 .1 .1 .1 .0))) (take (a .outer) (now (a .ring))) (j .last .1 .1 .1 .1 .1 .0) (p .last .1 .1 .1 .1 .1 .1 .0) (j .last .1 .1 .1 .1 .1 .1 .1 .1 .0) (p .result .entries) (j .result) (j .ensures) (p .result .holes) (length (now (a .ring))) (length (now (a .hole))) (length (j .last .1 .1 .1 .1 .1 .1 .1 .0)) (j .kept .1 .1 .1 .1 .1 .0) (j .kept .1 .1 .1 .1 .1 .1 .1 .0 ∙ p .kept .1 .1 .1 .1 .0) (order-room (flats (now (a .xs)) (now (a .ys))) (a .outer) (now (a .counts)) (length (now (a .hole))) (p .last .1 .1 .1 .1 .1 .0) (now (a .log)) (p .last .1 .1 .1 .1 .1 .1 .0) (p .result) (p .ensures) (length (now (a .ring))) (c .before .before .before .before .before .before .before .before .before .before .before .before .before .before .before .before .before .before .before .before .before .before .before .before .before .before .before .before .before .before .before .before .pre .0) (p .kept .1 .1 .1 .1 .1 .0)) (le-of-eq (sym (c .before .before .before .before .before .before .before .before .before .before .before .before .before .before .before .before .before .before .before .before .before .before .before .before .before .before .before .before .before .before .before .before .pre .0 .same)))
+    joined-room (flats (now (a .xs)) (now (a .ys))) (map (holeAt (flats (now (a .xs)) (now (a .ys))) (a .outer) (now (a .counts))) (take (p .result .holes) (p .last .1 .1 .1 .1 .1 .0))) (take (a .outer) (now (a .ring))) (now (a .ring)) (j .last .1 .1 .1 .1 .1 .0) (p .last .1 .1 .1 .1 .1 .1 .0) (j .last .1 .1 .1 .1 .1 .1 .1 .1 .0) (p .result .entries) (j .result) (j .ensures .0) (p .result .holes) (length (now (a .ring))) (length (now (a .hole))) (length (j .last .1 .1 .1 .1 .1 .1 .1 .0)) (j .kept .1 .1 .1 .1 .1 .0) (j .kept .1 .1 .1 .1 .1 .1 .1 .0 ∙ p .kept .1 .1 .1 .1 .0) (order-room (flats (now (a .xs)) (now (a .ys))) (a .outer) (now (a .counts)) (length (now (a .hole))) (p .last .1 .1 .1 .1 .1 .0) (now (a .log)) (p .last .1 .1 .1 .1 .1 .1 .0) (p .result) (p .ensures) (length (now (a .ring))) (c .before .before .before .before .before .before .before .before .before .before .before .before .before .before .before .before .before .before .before .before .before .before .before .before .before .before .before .before .before .before .before .before .pre .0) (p .kept .1 .1 .1 .1 .1 .0)) (le-of-eq (sym (c .before .before .before .before .before .before .before .before .before .before .before .before .before .before .before .before .before .before .before .before .before .before .before .before .before .before .before .before .before .before .before .before .pre .0 .same)))
 
 same-length : tie.Need-same-length
 same-length c = length-front (c .before .before .before .before .before .before .before .before .before .before .before .before .before .before .before .before .before .before .before .before .join-holes .last .1 .1 .1 .1 .1 .0) (c .before .before .before .before .before .before .before .before .cut-ring .last .1 .1 .0) (c .before .before .before .before .before .before .before .before .before .before .before .before .before .before .before .before .before .before .before .before .join-holes .result) (c .before .before .before .before .before .before .before .before .cut-ring .kept .1 .1 .0) ∙ c .before .before .before .before .before .before .before .before .before .before .before .before .before .before .before .before .before .before .before .before .join-holes .kept .1 .1 .1 .1 .1 .0
@@ -82,7 +82,7 @@ returns c =
     let r = c .before .before .before .before .before .before .before .before .cut-ring in
     let fs = flats (now (a .xs)) (now (a .ys)) in
     open-draws fs (a .outer) (now (a .counts)) (length (now (a .hole))) (p .last .1 .1 .1 .1 .1 .0) (now (a .log)) (p .last .1 .1 .1 .1 .1 .1 .0) (p .result) (p .ensures) (now (a .ring)) (r .last .1 .1 .1 .1 .0) (now (a .triangles)) (r .last .1 .1 .1 .1 .1 .1 .0) (r .result) (c .before .before .before .before .before .before .before .before .before .before .before .before .before .before .before .before .before .before .before .before .before .before .before .before .before .before .before .before .before .before .before .before .before .before .before .before .before .before .before .before .before .pre .1)
-    (joined-draws fs (map (holeAt fs (a .outer) (now (a .counts))) (take (p .result .holes) (p .last .1 .1 .1 .1 .1 .0))) (take (a .outer) (now (a .ring))) (j .last .1 .1 .1 .1 .1 .0) (p .last .1 .1 .1 .1 .1 .1 .0) (j .last .1 .1 .1 .1 .1 .1 .1 .1 .0) (p .result .entries) (j .result) (j .ensures) (r .last .1 .1 .1 .1 .0) (now (a .triangles)) (r .last .1 .1 .1 .1 .1 .1 .0) (p .result .holes) (r .result) (order-count fs (a .outer) (now (a .counts)) (length (now (a .hole))) (p .last .1 .1 .1 .1 .1 .0) (now (a .log)) (p .last .1 .1 .1 .1 .1 .1 .0) (p .result) (p .ensures)) (r .ensures))
+    (joined-draws fs (map (holeAt fs (a .outer) (now (a .counts))) (take (p .result .holes) (p .last .1 .1 .1 .1 .1 .0))) (take (a .outer) (now (a .ring))) (now (a .ring)) (j .last .1 .1 .1 .1 .1 .0) (p .last .1 .1 .1 .1 .1 .1 .0) (j .last .1 .1 .1 .1 .1 .1 .1 .1 .0) (p .result .entries) (j .result) (j .ensures .0) (r .last .1 .1 .1 .1 .0) (now (a .triangles)) (r .last .1 .1 .1 .1 .1 .1 .0) (p .result .holes) (r .result) (order-count fs (a .outer) (now (a .counts)) (length (now (a .hole))) (p .last .1 .1 .1 .1 .1 .0) (now (a .log)) (p .last .1 .1 .1 .1 .1 .1 .0) (p .result) (p .ensures)) (r .ensures))
 
 pub cut-open-spec : {M : Type 1} → statement M
 cut-open-spec =
