@@ -1,12 +1,12 @@
 // The lid of a closed outline: the corners laid flat, and the lid cut.
 ghost use mathlib.Core.Path.{_≡_};
 ghost use Prim.Native.Nat.{_+_, _*_, _<_, _≤_};
-ghost use lib.ListN.{length, take, drop};
+ghost use lib.ListN.{length, take};
 ghost use Rattle.scene_field.specs.Fields.{countsAt};
 ghost use Rattle.lid_plane.specs.Plane.{flatten};
-ghost use Rattle.lid.specs.Contract.Rings.{flats};
 ghost use Rattle.lid.specs.Contract.Written.{LidWritten};
 ghost use Rattle.shape_outline_corners.specs.Contract.Outlines.{pointsAt, PointsIn, lidAt, OutlineHolds};
+ghost use Rattle.shape_outline_lid.specs.Contract.LaidFlat.{CornersLaid};
 use coords_vector::Vector;
 use lid_plane::axes::first_axis;
 use lid_plane::axes::flat_corner;
@@ -20,7 +20,7 @@ use shape_outline_corners::OutlineAt;
 // the second ones behind them.
 fn lay_flat(s: &[u8], at: usize, n: usize, lid: Vector, work: &mut [f32])
     requires { ⌜ PointsIn (now s) at n × (2 * n ≤ length (now work)) ⌝ }
-    ensures { λ _. ⌜ flats (take n (now (work .exit))) (drop n (now (work .exit))) ≡ flatten lid (pointsAt (now (s .entry)) n at) ⌝ }
+    ensures { λ _. ⌜ CornersLaid (flatten lid (pointsAt (now (s .entry)) n at)) n work ⌝ }
 {
     let e1 = first_axis(lid);
     let e2 = lid.cross(e1);
@@ -55,6 +55,7 @@ pub fn cut(
 ) -> lid::LidCounts
     requires { ⌜ OutlineHolds (now s) o × (2 * o .n ≤ length (now work)) ⌝ }
     ensures { λ r. ⌜ LidWritten (lidAt (now (s .entry)) (o .i) (o .outer) (o .holes)) log 0 triangles r ⌝ }
+    ensures { λ _. ⌜ CornersLaid (flatten (o .lid) (pointsAt (now (s .entry)) (o .n) (o .at + 12))) (o .n) work ⌝ }
 {
     let mut counts = [0; MOST_HOLES];
     let h = o.holes;

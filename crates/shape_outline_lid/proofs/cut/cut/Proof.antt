@@ -21,7 +21,8 @@ triangulate-requires c κs =
 returns : tie.Need-returns
 returns c =
     let z = c .before .before .before .before .before .before .before .before .before .before .before .before .before .before .before .before .before .before .before .before .before .before .before .before .before in
-    cut-written (z .args .s .now) (z .args .o) _ _ _ (z .pre .0) (c .before .before .before .before .before .before .before .before .before .before .before .before .before .before .before .before .before .lay-flat .ensures) (c .before .before .before .before .before .before .before .before .before .before .before .before .read-counts .ensures) (c .before .before .before .before .triangulate .ensures) refl
+    let laid = c .before .before .before .before .before .before .before .before .before .before .before .before .before .before .before .before .before .lay-flat .ensures in
+    (cut-written (z .args .s .now) (z .args .o) _ _ _ (z .pre .0) (laid .0) (c .before .before .before .before .before .before .before .before .before .before .before .before .read-counts .ensures) (c .before .before .before .before .triangulate .ensures) refl, laid)
 
 pub cut-spec : {M : Type 1} → statement M
 cut-spec =
