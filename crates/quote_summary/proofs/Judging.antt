@@ -9,12 +9,14 @@ use Rattle.lists.specs.Loops.{over}
 use Rattle.lists.proofs.Buffers.{take-over}
 use Rattle.float.specs.Number.{zerof, minArea}
 use Rattle.object.specs.Object.{Object}
+use Rattle.refusal.specs.declared.Refusal.{Refusal}
+use Rattle.refusal.specs.Rows.{numberOf}
 use Rattle.scene.specs.Scene.{Scene, refused, accepted, scene}
 use Rattle.validate.specs.declared.Validation.{Validation}
-use Rattle.validate.specs.Validate.{validate}
+use Rattle.validate.specs.Validate.{validate, validateAt, verdict}
 use Rattle.mesh.specs.Mesh.{Mesh, meshOf, accountsOf, accountNumbers}
 use Rattle.mesh.specs.PerBuffer.{Counts, Buffers, lent}
-use Rattle.mesh.specs.Operations.{Answer, Built, refusedWith, output, countsOf, done, measureScene, measure, overlay, tooShort, buildOutput, buildScene, build}
+use Rattle.mesh.specs.Operations.{Answer, Built, noCounts, refusedWith, output, countsOf, done, measureScene, measure, overlay, tooShort, buildOutput, buildScene, build}
 use Rattle.mesh.specs.Demand3.{LongEnough}
 use Rattle.mesh.proofs.Rooms.{long-enough}
 use Rattle.mesh.proofs.MeshSizes.{output-counts}
@@ -25,7 +27,7 @@ use Rattle.quote_text.proofs.Enough.{enough}
 use Rattle.quote_lines.specs.Lines.{isOk}
 use Rattle.quote_text.specs.Quote.{validation}
 use Rattle.quote_summary.specs.declared.Summary.{Summary}
-use Rattle.quote_summary.specs.Contract.Summaries.{summaryOf, SummedUp, Summed}
+use Rattle.quote_summary.specs.Contract.Summaries.{summaryOf, refusedSummary, SummedUp, Summed}
 
 -- what Build leaves where no buffer is too short
 abbrev whole : Scene → Buffers → Built
@@ -48,6 +50,11 @@ unfolding judged overlay done countsOf output validation
 same-validation os b = let w = output minArea os in ap₂ validate (take-over (w .vertices) (b .vertices)) (take-over (w .indices) (b .indices))
 
 -- ---- in the numbers that the program reads
+
+-- no vertices and no triangles are judged where the scene is refused
+numbers-back : (f : Refusal) (object : ℕ) (b : Buffers) → summaryOf (refusedWith f object) (judged (whole (refused f object) b) .validation) ≡ refusedSummary (numberOf f)
+unfolding judged refusedWith noCounts validate validateAt verdict
+numbers-back f object b = refl
 
 numbers-up : (os : List Object) (b : Buffers) (m : Summary) → m ≡ summaryOf (done (output minArea os)) (judged (whole (accepted os) b) .validation)
     → SummedUp os m (overlay (output minArea os) b .account)
@@ -92,7 +99,7 @@ module _ (s : List ℕ) (b : Buffers) (l : length s ≤ 4096) (room : countsOf b
     unfolding buildAndValidate
     both = e ∙ ap judged is-whole
 
-    pub summed : {a : CAnswer} {m : Summary} → answerFrom a ≡ r .answer → m ≡ summaryOf (answerFrom a) v → Summed s m (r .buffers .account)
+    pub summed : {a : CAnswer} {m : Summary} → answerFrom a ≡ r .answer → m ≡ summaryOf (answerFrom a) v → Summed s m (b .account) (r .buffers .account)
     unfolding judged measure
     summed {a} {m} p q =
         let built : r ≡ whole (scene s) b = ap (λ (x : BuiltAndJudged). x .built) both in
@@ -104,4 +111,8 @@ module _ (s : List ℕ) (b : Buffers) (l : length s ≤ 4096) (room : countsOf b
               let x : v ≡ judged (whole (accepted os) b) .validation = ap (λ (x : BuiltAndJudged). x .validation) both ∙ ap (λ (t : Scene). judged (whole t b) .validation) h in
               subst (λ (x : Built). SummedUp os m (x .buffers .account)) (sym w)
               (numbers-up os b m (n ∙ ap₂ (λ (x : Built) (y : Validation). summaryOf (x .answer) y) w x));
+          back = λ f object h.
+              let w : r ≡ whole (refused f object) b = built ∙ ap (λ (t : Scene). whole t b) h in
+              let x : v ≡ judged (whole (refused f object) b) .validation = ap (λ (x : BuiltAndJudged). x .validation) both ∙ ap (λ (t : Scene). judged (whole t b) .validation) h in
+              (n ∙ ap₂ (λ (x : Built) (y : Validation). summaryOf (x .answer) y) w x ∙ numbers-back f object b, ap (λ (x : Built). x .buffers .account) w);
         }

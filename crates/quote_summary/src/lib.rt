@@ -41,7 +41,7 @@ fn summary_of(a: Answer, v: Validation) -> Summary
 // Build and Validate, with working buffers of `roomFor 4096` numbers.
 pub fn sum_up(s: &[u8], account: &mut Account) -> Summary
     requires { ⌜ length (now s) ≤ 4096 ⌝ }
-    ensures { λ r. ⌜ Summed (now (s .entry)) r (now (account .exit)) ⌝ }
+    ensures { λ r. ⌜ Summed (now (s .entry)) r (now (account .entry)) (now (account .exit)) ⌝ }
 {
     let mut vertices = [0.0f32; 24576];
     let mut normals = [0.0f32; 24576];

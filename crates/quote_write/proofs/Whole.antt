@@ -49,7 +49,7 @@ short-text : (s : List ℕ) → length s ≤ 4096 → quoteText s ≡ sceneText 
 unfolding quoteText
 short-text s h = rw (le-ltb 4096 (length s) h)
 
-module _ {s : List ℕ} {m : Summary} {account : List ℕ} (l : length s ≤ 4096) (u : Summed s m account) where
+module _ {s : List ℕ} {m : Summary} {before account : List ℕ} (l : length s ≤ 4096) (u : Summed s m before account) where
   pub refused-quote : (m .refusal ≡ 0 → ⊥) → quoteText s ≡ refusedLine (m .refusal)
   unfolding measure
   refused-quote h = short-text s l ∙ refused-text (scene s) (m .refusal) (u .refusal) h
