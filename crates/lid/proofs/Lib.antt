@@ -3,3 +3,4 @@ pub mod Entries
 pub mod Areas
 pub mod Facts
 pub mod Planes
+pub mod KnownBridges
