@@ -1,7 +1,5 @@
 // The most that one object can come to, told by the header of its record alone.
 
-pub mod totals;
-
 ghost use mathlib.Core.Path.{_≡_};
 ghost use mathlib.Core.Bool.{cond};
 ghost use Prim.Native.Nat.{_+_, _-_, _≤_};

@@ -31,7 +31,7 @@ use Rattle.mesh_bound.specs.declared.Counting.{Counting}
 use Rattle.mesh_bound.specs.declared.Counting.the-variants.{Exact}
 use Rattle.mesh_bound.specs.Contract.Most.{numbersOf, together, Few}
 use Rattle.mesh_bound.proofs.Bounds.{most-enough}
-use Rattle.mesh_bound.proofs.Counts.{SumOf, groups-counts, measured-counts}
+use Rattle.mesh_bound_scene.proofs.Counts.{SumOf, groups-counts, measured-counts}
 use Rattle.mesh_build.specs.declared.Plan.{Plan}
 use Rattle.mesh_build.specs.declared.Plan.the-variants.{Refuse, Write}
 use Rattle.mesh_build.specs.Contract.Plan.{PlanBy, PlanHolds}

@@ -21,7 +21,7 @@ use mesh_answer::Lengths;
 use mesh_bound::Counting;
 use mesh_bound::Group;
 use mesh_bound::Most;
-use mesh_bound::totals::bound_of_all;
+use mesh_bound_scene::bound_of_all;
 use mesh_measure::room::bound_counts;
 use mesh_measure::room::room;
 use refusal::Refusal;

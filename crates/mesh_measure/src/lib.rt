@@ -12,7 +12,7 @@ use float::MIN_AREA;
 use mesh_answer::Answered;
 use mesh_bound::Counting;
 use mesh_bound::Group;
-use mesh_bound::totals::bound_of_all;
+use mesh_bound_scene::bound_of_all;
 use scene::scenes::Checked;
 
 // What the objects take in each buffer at a limit below which a triangle is thin: measured, or the most that they can take.

@@ -1,1 +1,2 @@
-// Known shapes, computed on the definitions: see specs/ and proofs/.
+// Known shapes, and the most that objects can come to, computed on the definitions: see specs/ and
+// proofs/.

@@ -1,5 +1,5 @@
 -- The most that objects can come to, by the kinds and counts that their records' headers tell, and nearer bounds. proofs/Bounds shows that each is
--- enough, proofs/Exact that with all objects measured it is what they come to, and proofs/Exact of crate test_bound computes that one object of each kind
+-- enough, proofs/Exact that with all objects measured it is what they come to, and proofs/Exact of crate test_known computes that one object of each kind
 -- comes to just the most. Definitions only.
 use Prim.Native.Nat.{ℕ, _+_, _-_, _*_, _≤_}
 use mathlib.Core.Bool.{Bool, true, false, not, cond}

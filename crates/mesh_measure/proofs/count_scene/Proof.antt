@@ -2,7 +2,7 @@
 use mathlib.Core.Path.{sym, _∙_}
 use borrow.Author.Needs.{needs}
 use Rattle.scene.proofs.Walk.{checked-accepted}
-use Rattle.mesh_bound.proofs.Counts.{groups-counts}
+use Rattle.mesh_bound_scene.proofs.Counts.{groups-counts}
 use Rattle.mesh_measure.specs.Contract.Bounds.{boundOf}
 use Rattle.mesh_measure.proofs.Counting.{bound-refused, bound-accepted}
 use Rattle.mesh_measure.proofs.count_scene.Statement.{statement}

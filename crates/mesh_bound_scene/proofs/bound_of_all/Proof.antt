@@ -1,9 +1,9 @@
--- `mesh_bound::totals::bound_of_all` meets its contract. Assumes nothing.
+-- `mesh_bound_scene::bound_of_all` meets its contract. Assumes nothing.
 use Prim.Native.Nat.{_-_}
 use native.Mathlib.Omega.{arith}
-use Rattle.mesh_bound.proofs.Sums.{Sums, sums-start, record-inside, can-read, place-fits, can-sum, sums-next, sums-end}
-use Rattle.mesh_bound.proofs.totals.bound_of_all.Statement.{statement}
-use Rattle.mesh_bound.proofs.totals.bound_of_all.Tie as tie
+use Rattle.mesh_bound_scene.proofs.Sums.{Sums, sums-start, record-inside, can-read, place-fits, can-sum, sums-next, sums-end}
+use Rattle.mesh_bound_scene.proofs.bound_of_all.Statement.{statement}
+use Rattle.mesh_bound_scene.proofs.bound_of_all.Tie as tie
 
 abbrev Inv-loop : tie.InvT-loop
 Inv-loop s n limit group counting most₀ at₀ k₀ most at k = Sums limit group counting s n most at k

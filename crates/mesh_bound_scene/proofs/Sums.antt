@@ -14,13 +14,13 @@ use Rattle.scene.specs.Contract.Answers.{checkedOf, objectsOf}
 use Rattle.scene.specs.Contract.Headers.{bodyAt, headerAt, shapeOf}
 use Rattle.scene.proofs.Walk.{Walking, walk-object, walk-next, walk-limits, walk-body, walk-inside, AcceptedAs, checked-accepted, trailer-inside}
 use Rattle.shape.specs.Contract.Drawn.{CanDraw}
 use Rattle.mesh_bound.specs.declared.Most.{Most}
 use Rattle.mesh_bound.specs.declared.Group.{Group}
 use Rattle.mesh_bound.specs.declared.Counting.{Counting}
 use Rattle.mesh_bound.specs.Contract.Most.{nothing, together, boundIn, boundOfAll, Few}
 use Rattle.mesh_bound.proofs.Exact.{together-none, none-together}
 use Rattle.mesh_bound.proofs.Few.{few-among, few-together}
-use Rattle.mesh_bound.proofs.Headers.{few-bound}
+use Rattle.mesh_bound_scene.proofs.Headers.{few-bound}
 
 together-more : (a b c : Most) → together (together a b) c ≡ together a (together b c)
 together-more a b c = λ i. record {

@@ -1,10 +1,10 @@
--- `mesh_bound::totals::in_group` meets its contract. Assumes nothing.
+-- `mesh_bound_scene::in_group` meets its contract. Assumes nothing.
 use mathlib.Core.Path.{ap}
 use mathlib.Core.Bool.{not}
 use borrow.Author.Needs.{needs}
 use Rattle.mesh_bound.specs.Contract.Most.{inGroup}
-use Rattle.mesh_bound.proofs.totals.in_group.Statement.{statement}
-use Rattle.mesh_bound.proofs.totals.in_group.Tie as tie
+use Rattle.mesh_bound_scene.proofs.in_group.Statement.{statement}
+use Rattle.mesh_bound_scene.proofs.in_group.Tie as tie
 
 returns : tie.Need-returns
 unfolding inGroup

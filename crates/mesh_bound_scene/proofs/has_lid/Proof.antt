@@ -1,4 +1,4 @@
--- `mesh_bound::totals::has_lid` meets its contract. Assumes nothing.
+-- `mesh_bound_scene::has_lid` meets its contract. Assumes nothing.
 use mathlib.Core.Path.{_≡_, refl}
 use mathlib.Core.Bool.{Bool, true, false}
 use mathlib.Core.List.{List}
@@ -6,9 +6,9 @@ use Prim.Native.Nat.{ℕ}
 use borrow.Author.Needs.{needs}
 use Rattle.scene.specs.declared.headers.Body.the-variants.{Sweep}
 use Rattle.scene.specs.Contract.Headers.{shapeOf}
 use Rattle.mesh_bound.specs.Contract.Most.{hasLid}
-use Rattle.mesh_bound.proofs.totals.has_lid.Statement.{statement}
-use Rattle.mesh_bound.proofs.totals.has_lid.Tie as tie
+use Rattle.mesh_bound_scene.proofs.has_lid.Statement.{statement}
+use Rattle.mesh_bound_scene.proofs.has_lid.Tie as tie
 
 no-lid : (s : List ℕ) (i : ℕ) (round : Bool) (n : ℕ) → false ≡ hasLid (shapeOf s i (Sweep round n))
 unfolding hasLid

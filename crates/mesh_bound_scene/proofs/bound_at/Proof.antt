@@ -1,10 +1,10 @@
--- `mesh_bound::totals::bound_at` meets its contract. Assumes nothing.
+-- `mesh_bound_scene::bound_at` meets its contract. Assumes nothing.
 use mathlib.Core.Path.{refl}
 use borrow.Author.Needs.{needs}
 use borrow.Author.Tests.{not-true, not-false}
 use Rattle.mesh_bound.specs.Contract.Most.{countedBy, boundIn}
-use Rattle.mesh_bound.proofs.totals.bound_at.Statement.{statement}
-use Rattle.mesh_bound.proofs.totals.bound_at.Tie as tie
+use Rattle.mesh_bound_scene.proofs.bound_at.Statement.{statement}
+use Rattle.mesh_bound_scene.proofs.bound_at.Tie as tie
 
 returns : tie.Need-returns
 unfolding boundIn

@@ -1,12 +1,12 @@
--- `mesh_bound::totals::most_at` meets its contract. Assumes nothing.
+-- `mesh_bound_scene::most_at` meets its contract. Assumes nothing.
 use mathlib.Core.Path.{_∙_}
 use Prim.Native.Nat.{_-_}
 use native.Mathlib.Omega.{arith}
 use borrow.Author.Needs.{needs}
 use Rattle.mesh_bound.specs.Contract.Most.{mostOf}
-use Rattle.mesh_bound.proofs.Headers.{most-outline, most-sweep}
-use Rattle.mesh_bound.proofs.totals.most_at.Statement.{statement}
-use Rattle.mesh_bound.proofs.totals.most_at.Tie as tie
+use Rattle.mesh_bound_scene.proofs.Headers.{most-outline, most-sweep}
+use Rattle.mesh_bound_scene.proofs.most_at.Statement.{statement}
+use Rattle.mesh_bound_scene.proofs.most_at.Tie as tie
 
 sub-outline-most : tie.Need-sub-outline-most
 sub-outline-most c =

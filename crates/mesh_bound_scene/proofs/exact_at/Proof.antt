@@ -1,9 +1,9 @@
--- `mesh_bound::totals::exact_at` meets its contract. Assumes nothing.
+-- `mesh_bound_scene::exact_at` meets its contract. Assumes nothing.
 use mathlib.Core.Path.{refl, _∙_}
 use native.Mathlib.Omega.{arith}
-use Rattle.mesh_bound.proofs.DrawnExact.{drawn-exact}
-use Rattle.mesh_bound.proofs.totals.exact_at.Statement.{statement}
-use Rattle.mesh_bound.proofs.totals.exact_at.Tie as tie
+use Rattle.mesh_bound_scene.proofs.DrawnExact.{drawn-exact}
+use Rattle.mesh_bound_scene.proofs.exact_at.Statement.{statement}
+use Rattle.mesh_bound_scene.proofs.exact_at.Tie as tie
 
 returns : tie.Need-returns
 returns c = c .of-shape .ensures ∙ drawn-exact (c .before .before .before .before .before .before .draw .ensures)

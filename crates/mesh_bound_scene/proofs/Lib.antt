@@ -1,0 +1,4 @@
+pub mod Headers
+pub mod Sums
+pub mod DrawnExact
+pub mod Counts
