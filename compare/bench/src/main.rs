@@ -6,6 +6,7 @@ mod memory;
 mod outlines;
 mod reading;
 mod scenes;
+mod slowest;
 mod solids;
 mod timing;
 mod validating;
@@ -33,6 +34,7 @@ fn main() -> ExitCode {
     building::table(only);
     cutting::table(only);
     reading::table(only);
+    slowest::table(only);
     validating::table(only);
     memory::table(only);
     ExitCode::SUCCESS

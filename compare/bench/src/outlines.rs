@@ -73,3 +73,8 @@ pub fn holed(r: &mut Random, corners: usize, holes: usize) -> Vec<u8> {
         .collect();
     standing(r, true, outer, holes)
 }
+
+/// The slowest roof known, of 512 corners.
+pub fn wound(r: &mut Random) -> Vec<u8> {
+    standing(r, true, rings::wound(341, 171, 100.0), Vec::new())
+}

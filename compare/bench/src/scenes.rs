@@ -5,7 +5,7 @@ use reference::long::{filled, record, MOST_BYTES};
 use reference::random::Random;
 use reference::write::Writer;
 
-use crate::outlines::{holed, open_wall, ring, roof, Shape};
+use crate::outlines::{holed, open_wall, ring, roof, wound, Shape};
 use crate::solids::{boxed, cylinder};
 
 type Make = Box<dyn Fn() -> Vec<u8>>;
@@ -66,6 +66,7 @@ pub fn families() -> Vec<Family> {
         all.push(of(&name, 2, move |r| ring(r, shape, 500)));
     }
     all.extend([
+        of("the slowest roof known", 1, wound),
         of("sweeps", 10, made("sweeplong")),
         of("round sweeps", 3, made("roundlong")),
         of("mix", 100, mixed),

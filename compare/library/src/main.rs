@@ -44,8 +44,9 @@ fn all(seed: u64, count: u64, compare: Compare) -> Result<(), String> {
         }
     }
     for family in names() {
-        // A scene of this family takes the original many milliseconds.
-        let count = if family == "slow" { count.div_ceil(100) } else { count };
+        // A scene of these families takes the original many milliseconds.
+        let long = ["slow", "wound"].contains(&family);
+        let count = if long { count.div_ceil(100) } else { count };
         for k in 0..count {
             let seed = seed.wrapping_add(k);
             compare(format!("{family} seed {seed}"), &generate(family, seed), k)?;

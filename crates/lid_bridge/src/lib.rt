@@ -22,8 +22,8 @@ use lid::Seen;
 use lid_flat::flat_at;
 use lid_flat::flat_of;
 use lid_flat::turn;
-use lid_ring::corners::corners_at;
-use lid_ring::corners::number_at;
+use lid_place::corners::corners_at;
+use lid_place::corners::number_at;
 
 const MIN_POSITIVE: f32 = 1.17549435e-38;
 

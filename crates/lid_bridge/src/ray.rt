@@ -8,7 +8,7 @@ use lid::Flat;
 use lid::Hit;
 use lid::RingPlace;
 use lid_flat::flat_of;
-use lid_ring::place::place_after;
+use lid_place::place_after;
 
 // Of two places of a hole the one further right, and `at` if neither is.
 fn rightmost_step(xs: &[f32], ys: &[f32], hole: &[u32], at: RingPlace, best: RingPlace) -> RingPlace

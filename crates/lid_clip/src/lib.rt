@@ -22,8 +22,8 @@ use lid_flat::flat_at;
 use lid_flat::turn;
 use lid_log::put_entry;
 use lid_log::put_triangle;
-use lid_ring::corners::corners_at;
-use lid_ring::place::remove;
+use lid_place::corners::corners_at;
+use lid_place::remove;
 
 // Whether the corner at a place lies on a straight run.
 fn is_straight(xs: &[f32], ys: &[f32], ring: &[u32], at: RingPlace) -> bool

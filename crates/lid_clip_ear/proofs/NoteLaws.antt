@@ -14,7 +14,7 @@ use Rattle.lists.specs.Loops.{next, previous, removeAt, over}
 use Rattle.lists.proofs.Lists.{getD-any, map-append}
 use Rattle.lid.proofs.Areas.Ring.{removeAt-is}
 use Rattle.lid.proofs.Facts.{removeAt-size}
-use Rattle.lid_ring.proofs.BufferLaws.{over-is, over-front, over-behind, behind-later}
+use Rattle.lists.proofs.Buffers.{over-is, over-front, over-behind, behind-later}
 use Rattle.lid_clip_ear.specs.Contract.Notes.{down, movedBy, moved, capped, movedBehind, anew, without}
 
 -- ---- places after a removal

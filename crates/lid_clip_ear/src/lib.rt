@@ -21,7 +21,7 @@ use lid::RingPlace;
 use lid::Tested;
 use lid_flat::flat_at;
 use lid_flat::turn;
-use lid_ring::corners::corners_at;
+use lid_place::corners::corners_at;
 
 // Whether corner p, at q, does not stand in the way of the ear t, at a, b, c.
 fn clear(t: Corners, a: Flat, b: Flat, c: Flat, p: CornerNumber, q: Flat) -> bool

@@ -8,8 +8,8 @@ ghost use lib.ListN.{length, replicate};
 ghost use Rattle.lists.specs.Loops.{over};
 ghost use Rattle.lid_clip_ear.specs.Contract.Notes.{failedAt, capped, down, movedBy, movedBehind, PlaceForgotten};
 use lid::RingPlace;
-use lid_ring::place::place_after;
-use lid_ring::place::place_before;
+use lid_place::place_after;
+use lid_place::place_before;
 
 // The note of a place that fails test 0.
 pub const UNTURNED: u32 = 1;

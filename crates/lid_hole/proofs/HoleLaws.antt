@@ -16,7 +16,7 @@ use Rattle.lid.specs.Contract.Written.{cornerTotal}
 use Rattle.lid.specs.Contract.Steps.{turned}
 use Rattle.lid_hole.specs.Contract.Holes.{holeStart, holeCorners}
 use Rattle.lid.proofs.Areas.Lid.{turnHole-length}
-use Rattle.lid_ring.proofs.BufferLaws.{over-is, over-front}
+use Rattle.lists.proofs.Buffers.{over-is, over-front}
 use Rattle.lid_ring.proofs.RingLaws.{up}
 
 -- ---- where a hole's corners start

@@ -12,7 +12,7 @@ use Rattle.float.specs.Number.{zerof}
 use Rattle.float.specs.Signs.{totalLess}
 use Rattle.lid.specs.Contract.Steps.{insertAt}
 use Rattle.lid_hole.specs.Contract.Order.{insertBy, orderStep, Ordered}
-use Rattle.lid_ring.proofs.BufferLaws.{over-is}
+use Rattle.lists.proofs.Buffers.{over-is}
 use Rattle.lid_splice.proofs.SpliceLaws.{front-back}
 
 module _ (rights : List Float) (g : ℕ) (order t : List ℕ) (i : ℕ) (inv : take i order ++ insertBy rights g (drop i order) ≡ t) where

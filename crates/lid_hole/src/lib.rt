@@ -5,12 +5,12 @@ pub mod survey;
 
 ghost use mathlib.Core.Path.{_≡_};
 ghost use Prim.Native.Nat.{_<_, _≤_, _^_};
-ghost use lib.ListN.{length, getD};
+ghost use lib.ListN.{length};
 ghost use Rattle.lists.specs.Loops.{over};
 ghost use Rattle.lid.specs.Rings.{tooSmall};
 ghost use Rattle.lid.specs.Contract.Rings.{flatsIn};
 ghost use Rattle.lid.specs.Contract.Written.{cornerTotal};
-ghost use Rattle.lid_hole.specs.Contract.Holes.{holeStart, holeCorners, holeRing};
+ghost use Rattle.lid_hole.specs.Contract.Holes.{holeStart, holeCorners, holeRing, HoleFits};
 use lid_ring::write_ring;
 
 // The number of hole g's first corner; past the last hole, how many corners there are.
@@ -37,9 +37,7 @@ pub fn write_hole(
     hole: &mut [u32],
     g: usize,
 ) -> bool
-    requires { ⌜ g < length (now counts) ⌝ }
-    requires { ⌜ cornerTotal outer (now counts) < 2 ^ 32 ⌝ }
-    requires { ⌜ getD (now counts) g 0 ≤ length (now hole) ⌝ }
+    requires { ⌜ HoleFits outer (now counts) (now hole) g ⌝ }
     ensures { λ r. ⌜ r ≡ tooSmall (flatsIn xs ys) (holeCorners outer (now (counts .entry)) g) ⌝ }
     ensures { λ _. ⌜ now (hole .exit) ≡ over (holeRing (flatsIn xs ys) outer (now (counts .entry)) g) (now (hole .entry)) ⌝ }
 {

@@ -2,12 +2,12 @@
 ghost use mathlib.Core.Path.{_≡_};
 ghost use mathlib.Core.List.{_∷_, []};
 ghost use Prim.Native.Nat.{_+_, _<_, _≤_, _^_};
-ghost use lib.ListN.{length, getD};
+ghost use lib.ListN.{length};
 ghost use Rattle.lists.specs.Loops.{sumOf, over};
 ghost use Rattle.lid.specs.Rings.{tooSmall, right};
 ghost use Rattle.lid.specs.Contract.Rings.{flatsIn};
 ghost use Rattle.lid.specs.Contract.Written.{logWith, cornerTotal};
-ghost use Rattle.lid_hole.specs.Contract.Holes.{holeCorners, holeRing, rightsOf, smallOf, allHolesOver, skips, allSkips};
+ghost use Rattle.lid_hole.specs.Contract.Holes.{holeCorners, holeRing, HoleFits, rightsOf, smallOf, allHolesOver, skips, allSkips};
 use crate::write_hole;
 use lid::Surveyed;
 use lid_log::put_entry;
@@ -21,9 +21,7 @@ fn survey_hole(
     hole: &mut [u32],
     g: usize,
 ) -> Surveyed
-    requires { ⌜ g < length (now counts) ⌝ }
-    requires { ⌜ cornerTotal outer (now counts) < 2 ^ 32 ⌝ }
-    requires { ⌜ getD (now counts) g 0 ≤ length (now hole) ⌝ }
+    requires { ⌜ HoleFits outer (now counts) (now hole) g ⌝ }
     ensures { λ r. ⌜ r .right ≡ right (flatsIn xs ys) (holeRing (flatsIn xs ys) outer (now (counts .entry)) g) ⌝ }
     ensures { λ r. ⌜ r .small ≡ tooSmall (flatsIn xs ys) (holeCorners outer (now (counts .entry)) g) ⌝ }
     ensures { λ _. ⌜ now (hole .exit) ≡ over (holeRing (flatsIn xs ys) outer (now (counts .entry)) g) (now (hole .entry)) ⌝ }

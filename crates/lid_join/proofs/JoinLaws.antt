@@ -22,7 +22,7 @@ use Rattle.lid.proofs.Areas.Lid.{BridgeIn, bridge-in}
 use Rattle.lid.proofs.Facts.{splice-size}
 use Rattle.lid_hole.proofs.HoleLaws.{hole-size}
 use Rattle.lid_log.proofs.RecordLaws.{log-next, log-end}
-use Rattle.lid_ring.proofs.BufferLaws.{over-is, over-front, over-behind, behind-later}
+use Rattle.lists.proofs.Buffers.{over-is, over-front, over-behind, behind-later}
 
 -- ---- one hole
 

@@ -1,4 +1,2 @@
 pub mod RingLaws
-pub mod RemoveLaws
 pub mod FoldLaws
-pub mod BufferLaws

@@ -4,12 +4,12 @@ ghost use Prim.Native.Nat.{_+_, _<_};
 ghost use lib.ListN.{length};
 ghost use Rattle.lid.specs.Rings.{areaStep, area, rightStep, right};
 ghost use Rattle.lid.specs.Contract.Rings.{flatsIn};
-use crate::place::place_after;
 use lid::CornerNumber;
 use lid::RingPlace;
 use lid_flat::flat_at;
 use lid_flat::flat_of;
 use lid_flat::turn;
+use lid_place::place_after;
 
 // The area so far with the turn of one more triangle of the fan.
 fn area_step(xs: &[f32], ys: &[f32], ring: &[u32], at: RingPlace, sum: f32) -> f32

@@ -1,8 +1,6 @@
 // Rings of corner numbers as a lid writes them, turned.
 
 pub mod area;
-pub mod corners;
-pub mod place;
 
 ghost use mathlib.Core.Path.{_≡_};
 ghost use mathlib.Core.List.{reverse};

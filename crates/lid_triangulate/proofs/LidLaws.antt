@@ -30,7 +30,7 @@ use Rattle.lid.proofs.Facts.{joinAll-log, holes-each, rings-count}
 use Rattle.lid_hole.proofs.HoleLaws.{start-last}
 use Rattle.lid_triangulate.proofs.OrderLaws.{order-is, skips-are, order-joinable, order-adds, sum-two}
 use Rattle.lid_log.proofs.RecordLaws.{log-some}
-use Rattle.lid_ring.proofs.BufferLaws.{over-front}
+use Rattle.lists.proofs.Buffers.{over-front}
 use Rattle.lid_splice.proofs.SpliceLaws.{front-back}
 
 -- a ring whose holes are joined, and then cut

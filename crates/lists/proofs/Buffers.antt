@@ -1,12 +1,12 @@
 -- What stands in a buffer after it was written, and records written as numbers one behind the other and read back. Assumes nothing.
-use mathlib.Core.Path.{_≡_, refl, _∙_, ap, ap₂}
+use mathlib.Core.Path.{_≡_, refl, sym, _∙_, ap, ap₂}
 use mathlib.Core.List.{List, [], _∷_, _++_}
-use Prim.Native.Nat.{ℕ, zero, suc, _+_, _*_, _/_, _<_}
+use Prim.Native.Nat.{ℕ, zero, suc, _+_, _-_, _*_, _/_, _<_, _≤_}
 use native.Mathlib.Nat.{mul-div-right}
 use native.Mathlib.Omega.{arith}
 use lib.Dec.{lit<}
-use lib.ListN.{length, getD, take, drop}
-use lib.Seq.{getD-append-add, take-append-seam}
+use lib.ListN.{length, getD, take, drop, take-append-drop}
+use lib.Seq.{getD-append-add, take-append-seam, drop-append-seam, drop-drop}
 use Rattle.lists.specs.Loops.{list, join, over}
 use Rattle.lists.proofs.Lists.{join-size}
 
@@ -14,6 +14,27 @@ use Rattle.lists.proofs.Lists.{join-size}
 pub take-over : {A : Type 0} (written buffer : List A) → take (length written) (over written buffer) ≡ written
 unfolding over
 take-over written buffer = take-append-seam written (drop (length written) buffer)
+
+-- ---- a buffer whose front was written over
+
+module _ {A : Type 0} (n : ℕ) (new old written : List A) (size : n ≡ length written) where
+  pub over-is : take n new ≡ written → drop n new ≡ drop n old → new ≡ over written old
+  unfolding over
+  over-is front behind = sym (take-append-drop n new) ∙ ap₂ (λ (a b : List A). a ++ b) front (behind ∙ ap (λ (k : ℕ). drop k old) size)
+
+  pub over-front : new ≡ over written old → take n new ≡ written
+  over-front e = ap₂ (λ (k : ℕ) (l : List A). take k l) size e ∙ take-over written old
+
+  pub over-behind : new ≡ over written old → drop n new ≡ drop n old
+  unfolding over
+  over-behind e =
+      ap₂ (λ (k : ℕ) (l : List A). drop k l) size e ∙ drop-append-seam written (drop (length written) old) ∙ ap (λ (k : ℕ). drop k old) (sym size)
+
+-- what is alike behind place m is so behind every later one
+pub behind-later : {A : Type 0} (m n : ℕ) (l r : List A) → m ≤ n → drop m l ≡ drop m r → drop n l ≡ drop n r
+behind-later m n l r h e =
+    let k : n ≡ m + (n - m) = omega arith in
+    ap (λ (i : ℕ). drop i l) k ∙ sym (drop-drop (n - m) m l) ∙ ap (drop (n - m)) e ∙ drop-drop (n - m) m r ∙ ap (λ (i : ℕ). drop i r) (sym k)
 
 -- ---- records of w numbers each
 

@@ -55,6 +55,18 @@ first-found p n i t h e q = sym (first-hit p n i h e) ∙ q
 pub first-next : (p : ℕ → Bool) (n i : ℕ) (t : Found) → i < n → p i ≡ false → first p (n - i) i ≡ t → first p (n - (i + 1)) (i + 1) ≡ t
 first-next p n i t h e q = ap (λ (k : ℕ). first p (n - k) k) (add-one i) ∙ sym (first-miss p n i h e) ∙ q
 
+-- after several turns at a time, none of which finds: from i on, m places are skipped
+pub first-skip : (p : ℕ → Bool) (n m i : ℕ) (t : Found) → i + m ≤ n → ((j : ℕ) → j < m → p (i + j) ≡ false) → first p (n - i) i ≡ t → first p (n - (i + m)) (i + m) ≡ t
+first-skip p n zero i t b h q = subst (λ (k : ℕ). first p (n - k) k ≡ t) (e i) q
+  where
+    e : (i : ℕ) → i ≡ i + zero
+    e i = omega arith
+first-skip p n (suc m) i t b h q =
+    subst (λ (k : ℕ). first p (n - k) k ≡ t) (e i m) (first-next p n (i + m) t (omega arith) (h m (omega arith)) (first-skip p n m i t (omega arith) (λ j l. h j (omega arith)) q))
+  where
+    e : (i m : ℕ) → i + m + 1 ≡ i + suc m
+    e i m = omega arith
+
 pub first-end : (p : ℕ → Bool) (n i : ℕ) (t : Found) → n ≤ i → first p (n - i) i ≡ t → Nowhere ≡ t
 unfolding first
 first-end p n i t h q = sym (ap (λ (m : ℕ). first p m i) (nothing-left h)) ∙ q

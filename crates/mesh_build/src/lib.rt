@@ -1,6 +1,6 @@
 // Build: tests the room, by the most that the objects can come to or else measured, and then writes.
 
-pub mod pass;
+mod pass;
 
 ghost use mathlib.Core.Path.{_≡_};
 ghost use Prim.Native.Nat.{_≤_};

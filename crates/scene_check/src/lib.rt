@@ -1,6 +1,6 @@
 // Checks a whole scene.
 
-pub mod record;
+mod record;
 
 ghost use mathlib.Core.Path.{_≡_};
 ghost use Prim.Native.Nat.{_+_, _*_, _≤_};

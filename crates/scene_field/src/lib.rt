@@ -1,8 +1,6 @@
 // Numbers at a place of the scene's bytes, little-endian. Whole numbers stand here.
 
 pub mod allowed;
-pub mod floats;
-pub mod points;
 
 ghost use mathlib.Core.Path.{_≡_};
 ghost use Prim.Native.Nat.{_+_, _≤_};

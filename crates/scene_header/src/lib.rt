@@ -18,9 +18,9 @@ use scene::layout::CORNER_BYTES;
 use scene::layout::ORIENTATION_BYTES;
 use scene::layout::POSITION_BYTES;
 use scene::layout::SECTION_BYTES;
-use scene_field::floats::f32_at;
 use scene_field::u16_at;
 use scene_field::u32_at;
+use scene_point::floats::f32_at;
 
 // ---- a solid
 

@@ -13,7 +13,7 @@ ghost use Rattle.scene_field.specs.Fields.{cornerAt, cornersAt};
 ghost use Rattle.shape.specs.Shapes.{hasHeight};
 ghost use Rattle.shape_outline_corners.specs.Contract.Outlines.{CornersIn};
 use coords_vector::Vector;
-use scene_field::points::corner_at;
+use scene_point::corner_at;
 
 // An outline where it lies: its counts are at `i` and its corners, n in all, at `at`. `lid` is the
 // normal of its lid, and `high` tells whether a closed one has a floor.

@@ -8,8 +8,8 @@ use crate::next_place;
 use coords_vector::Vector;
 use lid_plane::normal::area_normal_step;
 use lid_plane::normal::rise_step;
-use scene_field::points::corner_at;
-use scene_field::points::point_at;
+use scene_point::corner_at;
+use scene_point::point_at;
 
 // Twice the vector area of n points at `at`, from the first.
 fn area_normal(s: &[u8], at: usize, n: usize) -> Vector

@@ -12,8 +12,8 @@ use lid_plane::axes::first_axis;
 use lid_plane::axes::flat_corner;
 use lid_triangulate::triangulate;
 use object::MOST_HOLES;
-use scene_field::points::point_at;
 use scene_field::u16_in;
+use scene_point::point_at;
 use shape_outline_corners::OutlineAt;
 
 // Lays the n points at `at` flat on the lid's plane: their first coordinates go to the front of `work`,

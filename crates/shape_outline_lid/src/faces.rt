@@ -18,7 +18,7 @@ ghost use Rattle.shape_outline_lid.specs.Contract.Caps.{capStages, Caps}
 use crate::cut::cut;
 use coords_vector::Vector;
 use face::Tally;
-use scene_field::points::point_at;
+use scene_point::point_at;
 use shape_outline_corners::OutlineAt;
 
 // The numbers of n points at `at`.

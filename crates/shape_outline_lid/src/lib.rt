@@ -1,4 +1,4 @@
 // The lid of a closed outline and the floor under it: cut, and then drawn.
 
-pub mod cut;
+mod cut;
 pub mod faces;

@@ -9,7 +9,7 @@ ghost use Rattle.shape.specs.Shapes.{walls};
 ghost use Rattle.shape_outline_corners.specs.Contract.Outlines.{CornersIn};
 use coords_vector::Vector;
 use face::Tally;
-use scene_field::points::corner_at;
+use scene_point::corner_at;
 use shape_outline_corners::next_place;
 
 // The first `edges` walls of n corners at `at`.

@@ -9,7 +9,7 @@ ghost use Rattle.scene_field.specs.Layout.{mostSections, sectionBytes};
 ghost use Rattle.scene_field.specs.Fields.{sectionsAt};
 ghost use Rattle.shape.specs.Price.{pairPrice, offered};
 use object::Section;
-use scene_field::points::section_at;
+use scene_point::section_at;
 use shape_section::is_flat;
 use shape_section::is_widthless;
 

@@ -15,7 +15,7 @@ use crate::ellipses::ellipse;
 use crate::ellipses::tube;
 use coords::Point;
 use face::Tally;
-use scene_field::points::section_at;
+use scene_point::section_at;
 use shape::StageTallies;
 use shape_section::ends::end_places;
 

@@ -17,7 +17,7 @@ fn orientation_of(s: &[u8], p: SolidAt) -> Orientation
     requires { ⌜ SolidIn (now s) p ⌝ }
     ensures { λ r. ⌜ r ≡ orientationOf (now (s .entry)) p ⌝ }
 {
-    scene_field::points::orientation_at(s, p.orientation)
+    scene_point::orientation_at(s, p.orientation)
 }
 
 // A solid where it stands in the scene's bytes: what was written and counted after each stage.
@@ -35,7 +35,7 @@ pub fn solid(
     ensures { λ r. ⌜ DrawsStages limit (solidStages (pointAt (now (s .entry)) (p .position)) (orientationOf (now (s .entry)) p) (p .extent))
         before t r vs ns is ⌝ }
 {
-    let origin = scene_field::points::point_at(s, p.position);
+    let origin = scene_point::point_at(s, p.position);
     let turn = orientation_of(s, p);
     let extent = p.extent;
     match extent {

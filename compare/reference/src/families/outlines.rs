@@ -39,6 +39,7 @@ pub const FAMILIES: &[Family] = &[
     ("oddtops", |r| standing(r, Stand::Odd)),
     ("corners512", corners_512),
     ("slow", slow),
+    ("wound", wound),
 ];
 
 fn some_corners(r: &mut Random) -> usize {
@@ -232,4 +233,10 @@ fn slow(r: &mut Random) -> Vec<u8> {
     let [x, y] = [r.between(-0.5, 0.5), r.between(-0.5, 0.5)];
     outer.extend([[x + 0.1, y + 0.17], [x, y]]);
     scene(r, true, &Plan::new(outer, Vec::new()), Stand::Prism(1.0))
+}
+
+fn wound(r: &mut Random) -> Vec<u8> {
+    let around = 4 + r.below(338);
+    let ring = rings::wound(around, 1 + r.below(around.div_ceil(2)), 100.0);
+    scene(r, true, &Plan::new(ring, Vec::new()), Stand::Prism(3.0))
 }

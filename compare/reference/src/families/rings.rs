@@ -149,6 +149,29 @@ pub fn no_area(r: &mut Random, n: usize, size: f64) -> Ring {
     }
 }
 
+/// The slowest rings known: corners that wind round a circle by about a third of a turn each and
+/// end opposite to where the `middle` begin, so that every one of them would be an ear but for
+/// those in the middle, which are cut one by one.
+pub fn wound(around: usize, middle: usize, size: f64) -> Ring {
+    let steps = around as f64 - 1.0;
+    let turns = ((steps / 3.0 - 5.0 / 6.0).round() + 5.0 / 6.0 - steps / 3.0) / steps;
+    // The tangent of half of what a step turns beyond a third.
+    let x = std::f64::consts::PI * turns;
+    let t = x + x.powi(3) / 3.0;
+    let [c, s] = [(1.0 - t * t) / (1.0 + t * t), 2.0 * t / (1.0 + t * t)];
+    let third = [-0.5, 0.75_f64.sqrt()];
+    let step = [third[0] * c - third[1] * s, third[0] * s + third[1] * c];
+    let mut at = [-0.5, -third[1]];
+    let mut ring = Ring::new();
+    for _ in 0..around {
+        ring.push(at.map(|x| x * size));
+        at = [at[0] * step[0] - at[1] * step[1], at[0] * step[1] + at[1] * step[0]];
+    }
+    let inward = (0..middle).rev().map(|k| 0.001 * size * k as f64);
+    ring.extend(inward.map(|r| [0.5 * r, -third[1] * r]));
+    ring
+}
+
 /// A square ring on whole numbers.
 pub fn square(x: f64, y: f64, side: f64) -> Ring {
     vec![[x, y], [x + side, y], [x + side, y + side], [x, y + side]]

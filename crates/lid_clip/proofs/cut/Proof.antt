@@ -7,7 +7,7 @@ use borrow.Author.Tests.{eq-eqb, ne-eqb}
 use Rattle.lid.specs.Lid.{earsOf}
 use Rattle.lid.specs.Contract.Written.{triangleNumbers}
 use Rattle.lists.specs.Loops.{join}
-use Rattle.lid_ring.proofs.BufferLaws.{removed-front}
+use Rattle.lid_place.proofs.RemoveLaws.{removed-front}
 use Rattle.lid_clip.proofs.cut.Statement.{statement}
 use Rattle.lid_clip.proofs.cut.Tie as tie
 

@@ -1,5 +1,5 @@
 -- The holes as the code goes through them: by their numbers, from the corner counts of the outline. Definitions only.
-use Prim.Native.Nat.{ℕ, suc, _+_, _<_, _≤_}
+use Prim.Native.Nat.{ℕ, suc, _+_, _<_, _≤_, _^_}
 use mathlib.Core.Bool.{Bool, cond}
 use mathlib.Core.List.{List, [], _∷_, map}
 use lib.ListN.{length, getD, take}
@@ -8,6 +8,7 @@ use Rattle.lists.specs.Loops.{fold, list, sumOf, over}
 use Rattle.lid.specs.declared.Flat.{Flat}
 use Rattle.lid.specs.Log.{Entry, entry}
 use Rattle.lid.specs.Rings.{Hole, turnHole, tooSmall, right}
+use Rattle.lid.specs.Contract.Written.{cornerTotal}
 
 -- the number of hole g's first corner
 unfoldable pub holeStart : ℕ → List ℕ → ℕ → ℕ
@@ -19,6 +20,10 @@ holeCorners outer counts g = list (λ i. i) (getD counts g 0) (holeStart outer c
 
 abbrev pub holeRing : List Flat → ℕ → List ℕ → ℕ → List ℕ
 holeRing fs outer counts g = turnHole fs (holeCorners outer counts g)
+
+-- there is a hole g, its corners have numbers, and the buffer has room for them
+abbrev pub HoleFits : ℕ → List ℕ → List ℕ → ℕ → Type 0
+HoleFits outer counts hole g = (g < length counts) × (cornerTotal outer counts < 2 ^ 32) × (getD counts g 0 ≤ length hole)
 
 -- the hole, and those of several numbers
 abbrev pub holeAt : List Flat → ℕ → List ℕ → ℕ → Hole

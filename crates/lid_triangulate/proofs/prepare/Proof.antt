@@ -6,7 +6,7 @@ use lib.Seq.{length-take-le}
 use borrow.Author.Needs.{needs}
 use Rattle.lid_triangulate.proofs.LidLaws.{still, few-low, front-few, front-low, prepare-done}
 use Rattle.lid.specs.Contract.Rings.{flats}
-use Rattle.lid_ring.proofs.BufferLaws.{over-front}
+use Rattle.lists.proofs.Buffers.{over-front}
 use Rattle.lists.proofs.Lists.{length-list}
 use Rattle.lid_triangulate.proofs.prepare.Statement.{statement}
 use Rattle.lid_triangulate.proofs.prepare.Tie as tie

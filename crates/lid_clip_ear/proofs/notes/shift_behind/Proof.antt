@@ -6,7 +6,7 @@ use native.Mathlib.Omega.{arith}
 use lib.ListN.{length, take, drop, length-set}
 use lib.Seq.{drop-set-lt}
 use borrow.Author.Needs.{needs}
-use Rattle.lid_ring.proofs.BufferLaws.{over-is}
+use Rattle.lists.proofs.Buffers.{over-is}
 use Rattle.lid_clip_ear.proofs.NoteLaws.{behind-step, behind-end, behind-size}
 use Rattle.lid_clip_ear.specs.Contract.Notes.{movedBy}
 use Rattle.lid_clip_ear.proofs.notes.shift_behind.Statement.{statement}

@@ -5,7 +5,7 @@ use native.Mathlib.Omega.{arith}
 use lib.ListN.{length, take, drop}
 use lib.Seq.{length-take-le}
 use Rattle.lid_hole.specs.Contract.Order.{orderOf, orderStep}
-use Rattle.lid_ring.proofs.BufferLaws.{over-is, over-front, over-behind, behind-later}
+use Rattle.lists.proofs.Buffers.{over-is, over-front, over-behind, behind-later}
 use Rattle.lists.proofs.Loops.{loop-start, loop-next, loop-end}
 use Rattle.lists.specs.Loops.{loop}
 use Rattle.lid_hole.proofs.order.order_holes.Statement.{statement}

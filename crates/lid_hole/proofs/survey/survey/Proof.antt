@@ -10,7 +10,7 @@ use lib.Seq.{drop-set-lt}
 use Rattle.lid_hole.proofs.HoleLaws.{count-low}
 use Rattle.lid_hole.proofs.SurveyLaws.{list-put, list-put-end, in-room, skips-low, skips-count, skips-log, skips-end}
 use Rattle.lid_log.proofs.RecordLaws.{log-end}
-use Rattle.lid_ring.proofs.BufferLaws.{over-is, behind-later}
+use Rattle.lists.proofs.Buffers.{over-is, behind-later}
 use Rattle.lists.proofs.Lists.{length-list}
 use Rattle.lists.proofs.Loops.{fold-start, fold-next, fold-end}
 use Rattle.lid_hole.specs.Contract.Holes.{holeCorners, rightsOf, smallOf, holesOver, allHolesOver, skips}
@@ -42,7 +42,7 @@ loop-holds c = (refl, refl, refl, refl, omega arith, omega arith, simp sub-zero,
 survey-hole-requires : tie.Need-survey-hole-requires Inv-loop μ-loop
 survey-hole-requires c κs =
     let a = c .before .before .before .before .before .before .before .before .before .before .args in
-    (c .before .loop-test .taken, (c .before .before .before .before .before .before .before .before .before .before .pre .0 .0, omega (arith, count-low (a .outer) (now (a .counts)) (c .before .before .loop .g) (c .before .loop-test .taken))))
+    (c .before .loop-test .taken, c .before .before .before .before .before .before .before .before .before .before .pre .0 .0, omega (arith, count-low (a .outer) (now (a .counts)) (c .before .before .loop .g) (c .before .loop-test .taken)))
 
 loop-again : tie.Need-loop-again Inv-loop μ-loop
 loop-again c =
