@@ -1,6 +1,6 @@
 // Whether a mesh can back a physics collider, and if not, why: `Mesh::validate` of mesh.rs.
 
-pub mod faults;
+mod faults;
 
 ghost use mathlib.Core.Path.{_≡_};
 ghost use lib.ListN.{getD};

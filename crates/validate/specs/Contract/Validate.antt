@@ -1,14 +1,20 @@
--- The verdict on one triangle.
-use Prim.Native.Nat.{ℕ}
+-- The search for a faulty vertex from one on, and the verdict on one triangle.
+use Prim.Native.Nat.{ℕ, _-_}
 use mathlib.Core.Bool.{cond}
 use mathlib.Core.List.{List}
 use lib.ListN.{length}
 use lib.Dec.{leb}
 use lib.Ieee.{Float}
+use Rattle.lists.specs.declared.Found.{Found}
+use Rattle.lists.specs.Loops.{first}
 use Rattle.coords.specs.declared.Point.{Point}
-use Rattle.validate.specs.Faults.{degenerate}
+use Rattle.validate.specs.Faults.{notFinite, degenerate}
 use Rattle.validate.specs.declared.Verdict.{Verdict}
 use Rattle.validate.specs.declared.Verdict.the-variants.{Ok, Empty, NonFiniteVertex, IndexOutOfRange, DegenerateTriangle}
+
+-- the first vertex that is not finite from number k on
+abbrev pub notFiniteFrom : List Point → ℕ → Found
+notFiniteFrom vs k = first (notFinite vs) (length vs - k) k
 
 -- the verdict on triangle t, of the vertices numbered a, b and c
 unfoldable pub verdictOnTriangle : Float → List Point → ℕ → ℕ → ℕ → ℕ → Verdict
