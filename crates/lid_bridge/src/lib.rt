@@ -1,12 +1,13 @@
 // How a hole is joined to the ring, as `bridge`.
 
-pub mod ray;
+mod ray;
 
 ghost use mathlib.Core.Path.{_≡_};
 ghost use Prim.Native.Nat.{_+_, _<_};
 ghost use lib.ListN.{length};
 ghost use Rattle.lists.specs.Loops.{first};
-ghost use Rattle.lid.specs.Contract.Rings.{flatsIn};
+ghost use Rattle.lid.specs.Rings.{corner};
+ghost use Rattle.lid.specs.Contract.Rings.{flats, flatsIn};
 ghost use Rattle.lid.specs.Bridges.{inside, slopeOf, seenAt, visible, sitsIn, isCopy, copyOf, bridge};
 ghost use Rattle.lid.specs.Contract.Steps.{numbered, rayTo};
 use crate::ray::first_hit;
@@ -40,9 +41,18 @@ fn slope(m: Flat, r: Flat) -> f32
     float_sign::abs(r.y - m.y) / float_sign::max(r.x - m.x, MIN_POSITIVE)
 }
 
-// The shallowest slope so far, with the corner at one more place.
-fn seen_at(xs: &[f32], ys: &[f32], ring: &[u32], ray: Ray, at: RingPlace, best: Seen) -> Seen
+// The shallowest slope so far, with the corner at one more place. The ray's end is p.
+fn seen_at(
+    xs: &[f32],
+    ys: &[f32],
+    ring: &[u32],
+    ray: Ray,
+    p: Flat,
+    at: RingPlace,
+    best: Seen,
+) -> Seen
     requires { ⌜ at .0 < length (now ring) ⌝ }
+    requires { ⌜ p ≡ corner (flats (now xs) (now ys)) (ray .end .0) ⌝ }
     ensures { λ r. ⌜ r ≡ seenAt (flatsIn xs ys) (now (ring .entry)) (ray .m) (ray .i) (ray .end .0) (ray .s) (at .0) best ⌝ }
 {
     let k = at.0;
@@ -51,7 +61,6 @@ fn seen_at(xs: &[f32], ys: &[f32], ring: &[u32], ray: Ray, at: RingPlace, best: 
     if (ray.s == 0.0) | (c == ray.end.0) | (r.x < ray.m.x) {
         return best;
     }
-    let p = flat_at(xs, ys, ray.end);
     if !inside(ray.m, ray.i, p, ray.s, r) {
         return best;
     }
@@ -80,13 +89,14 @@ fn visible(xs: &[f32], ys: &[f32], ring: &[u32], m: Flat, i: Flat, target: RingP
     ensures { λ r. ⌜ r .0 ≡ visible (flatsIn xs ys) (now (ring .entry)) m i (target .0) ⌝ }
 {
     let ray = ray_to(xs, ys, ring, m, i, target);
+    let p = flat_at(xs, ys, ray.end);
     let mut best = Seen {
         slope: f32::from_bits(0x7f80_0000),
         place: target,
     };
     let mut k = 0;
     while k < ring.len() {
-        best = seen_at(xs, ys, ring, ray, RingPlace(k), best);
+        best = seen_at(xs, ys, ring, ray, p, RingPlace(k), best);
         k += 1;
     }
     best.place

@@ -1,9 +1,10 @@
 // Where the ray from a hole's rightmost corner meets the ring, as in `bridge`.
 ghost use mathlib.Core.Path.{_≡_};
-ghost use Prim.Native.Nat.{_+_, _<_};
+ghost use Prim.Native.Nat.{_+_, _<_, _≤_};
 ghost use lib.ListN.{length};
 ghost use Rattle.lid.specs.Contract.Rings.{flatsIn};
 ghost use Rattle.lid.specs.Bridges.{rightmostStep, rightmost, passes, meets, noNearer, hitEdge, hitAt, firstHit};
+ghost use Rattle.lid_bridge.specs.Contract.Hits.{passesAt, PassedOver};
 use lid::Flat;
 use lid::Hit;
 use lid::RingPlace;
@@ -89,15 +90,41 @@ fn hit_at(xs: &[f32], ys: &[f32], ring: &[u32], m: Flat, at: RingPlace, h: Hit) 
     hit_edge(m, a, b, at, j, h)
 }
 
+// Whether the edge from a place of the ring on does not meet the line through m along x.
+fn passes_at(xs: &[f32], ys: &[f32], ring: &[u32], m: Flat, at: RingPlace) -> bool
+    requires { ⌜ at .0 < length (now ring) ⌝ }
+    ensures { λ r. ⌜ r ≡ passesAt (flatsIn xs ys) (now (ring .entry)) m (at .0) ⌝ }
+{
+    let j = place_after(ring.len(), at);
+    let a = flat_of(xs, ys, ring, at);
+    let b = flat_of(xs, ys, ring, j);
+    passes(m, a, b)
+}
+
+// The next place, from `start` on, whose edge meets that line. Most edges do not, so they are passed
+// over before anything is told of a hit.
+fn next_met(xs: &[f32], ys: &[f32], ring: &[u32], m: Flat, start: usize) -> usize
+    ensures { λ r. ⌜ (start ≤ r) × PassedOver (flatsIn xs ys) (now (ring .entry)) m start r ⌝ }
+{
+    let mut k = start;
+    while k < ring.len() {
+        if !passes_at(xs, ys, ring, m, RingPlace(k)) {
+            return k;
+        }
+        k += 1;
+    }
+    k
+}
+
 // Where the ray from m meets the ring first.
 pub fn first_hit(xs: &[f32], ys: &[f32], ring: &[u32], m: Flat) -> Hit
     ensures { λ r. ⌜ r ≡ firstHit (flatsIn xs ys) (now (ring .entry)) m ⌝ }
 {
     let mut h = Hit::Nothing;
-    let mut k = 0;
+    let mut k = next_met(xs, ys, ring, m, 0);
     while k < ring.len() {
         h = hit_at(xs, ys, ring, m, RingPlace(k), h);
-        k += 1;
+        k = next_met(xs, ys, ring, m, k + 1);
     }
     h
 }

@@ -13,14 +13,14 @@ use Rattle.lid_bridge.proofs.visible.Statement.{statement}
 use Rattle.lid_bridge.proofs.visible.Tie as tie
 
 abbrev Inv-loop : tie.InvT-loop
-Inv-loop xs ys ring ray best₀ k₀ best k = (k ≤ length ring) × (loop (seenAt (flats xs ys) ring (ray .m) (ray .i) (ray .end .0) (ray .s)) (length ring - k) k best ≡ loop (seenAt (flats xs ys) ring (ray .m) (ray .i) (ray .end .0) (ray .s)) (length ring) 0 best₀)
+Inv-loop xs ys ring ray p best₀ k₀ best k = (k ≤ length ring) × (loop (seenAt (flats xs ys) ring (ray .m) (ray .i) (ray .end .0) (ray .s)) (length ring - k) k best ≡ loop (seenAt (flats xs ys) ring (ray .m) (ray .i) (ray .end .0) (ray .s)) (length ring) 0 best₀)
 
 abbrev μ-loop : tie.MeasureT-loop
-μ-loop xs ys ring ray best₀ k₀ best k = length ring - k
+μ-loop xs ys ring ray p best₀ k₀ best k = length ring - k
 
-float-from-bits-t10 : tie.Need-float-from-bits-t10 Inv-loop μ-loop
+float-from-bits-t11 : tie.Need-float-from-bits-t11 Inv-loop μ-loop
 unfolding nanBits
-float-from-bits-t10 c = tt
+float-from-bits-t11 c = tt
 
 loop-holds : tie.Need-loop-holds Inv-loop μ-loop
 loop-holds c = (omega arith, loop-start _ _ _)
@@ -30,10 +30,10 @@ loop-again c = (omega arith, loop-next _ _ _ _ _ _ (c .before .loop-test .taken)
 
 returns : tie.Need-returns Inv-loop μ-loop
 unfolding visible ofBits
-returns c = ap (λ (s : Seen). s .place .0) (loop-end _ _ _ _ _ (c .before .loop-test .left) (c .before .before .loop .inv .1)) ∙ rw (c .before .before .before .ray-to .ensures)
+returns c = ap (λ (s : Seen). s .place .0) (loop-end _ _ _ _ _ (c .before .loop-test .left) (c .before .before .loop .inv .1)) ∙ rw (c .before .before .before .before .ray-to .ensures)
 
 pub visible-spec : {M : Type 1} → statement M
 visible-spec =
     tie.close
-    (tie.spec Inv-loop μ-loop (λ c κs. omega arith) float-from-bits-t10 loop-holds (λ c κs. omega arith) (λ c. omega arith) (λ c. omega arith)
+    (tie.spec Inv-loop μ-loop (λ c κs. omega arith) (λ c κs. tt) float-from-bits-t11 loop-holds (λ c κs. (c .loop-test .taken, c .before .before .flat-at .ensures)) (λ c. omega arith) (λ c. omega arith)
     loop-again returns)
