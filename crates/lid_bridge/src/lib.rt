@@ -32,7 +32,10 @@ const MIN_POSITIVE: f32 = 1.17549435e-38;
 fn inside(m: Flat, i: Flat, p: Flat, s: f32, r: Flat) -> bool
     ensures { λ q. ⌜ q ≡ inside m i p s r ⌝ }
 {
-    (turn(m, i, r) * s >= 0.0) & (turn(i, p, r) * s >= 0.0) & (turn(p, m, r) * s >= 0.0)
+    if turn(m, i, r) * s >= 0.0 {
+        return (turn(i, p, r) * s >= 0.0) & (turn(p, m, r) * s >= 0.0);
+    }
+    false
 }
 
 fn slope(m: Flat, r: Flat) -> f32
