@@ -19,6 +19,7 @@ from pathlib import Path
 EXPORTED = [
     ("object_mesh", 'extern "C" fn '),
     ("mesh_measure", "pub fn measure("),
+    ("mesh_measure", "pub fn bound("),
     ("mesh_build", "pub fn build("),
     ("validate_mesh", "pub fn validate("),
     ("mesh_build_and_validate", "pub fn build_and_validate("),

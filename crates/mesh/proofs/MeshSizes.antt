@@ -14,7 +14,7 @@ use Rattle.face.proofs.Draws.{normals-size}
 use Rattle.lid.specs.Log.{entryRecord, logNumbers}
 use Rattle.shape.specs.Shapes.{facesOf}
 use Rattle.mesh.specs.Mesh.{keptBy, accountOf, pieceOf, addPiece, meshFrom, meshOf, accountsOf, logsOf, spanRecord, spanNumbers, accountRecord, accountNumbers}
-use Rattle.mesh.specs.Contract.PerBuffer.{numbersFor}
+use Rattle.mesh.specs.PerBuffer.{numbersFor}
 use Rattle.mesh.specs.Operations.{output, countsOf}
 use Rattle.mesh.proofs.Demand3.Spans.{piece-size}
 

@@ -3,6 +3,7 @@ use mathlib.Core.Path.{_≡_, refl, ap, subst₂}
 use mathlib.Core.Bool.{Bool, true, false, _||_, cond}
 use mathlib.Core.List.{List}
 use Prim.Native.Nat.{ℕ, _*_, _≤_, _<_, _^_, zero-le}
+use native.Mathlib.Nat.{le-trans}
 use native.Mathlib.Omega.{arith}
 use lib.ListN.{length}
 use lib.Dec.{ltb}
@@ -12,8 +13,8 @@ use Rattle.lid.specs.Log.{entryWidth}
 use Rattle.mesh.specs.Mesh.{spanWidth, accountWidth}
 use Rattle.mesh.specs.declared.Room.{Room}
 use Rattle.mesh.specs.declared.Room.the-variants.{Enough, Short}
-use Rattle.mesh.specs.PerBuffer.{Buffer, PerBuffer, each, at, Counts, Buffers}
-use Rattle.mesh.specs.Contract.PerBuffer.{numbersFor, FitCounts}
+use Rattle.mesh.specs.PerBuffer.{Buffer, PerBuffer, each, at, Counts, numbersFor, Buffers}
+use Rattle.mesh.specs.Contract.PerBuffer.{FitCounts}
 use Rattle.mesh.specs.PerBuffer.Buffer.{vertices, normals, indices, spans, account, log}
 use Rattle.mesh.specs.Operations.{noCounts, countsOf, tooShort}
 use Rattle.mesh.specs.Demand3.{LongEnough}
@@ -37,6 +38,9 @@ numbers-fit v t s n e hv ht hs hn he = record { vertices = hv; normals = hv; ind
 pub numbers-within : {v t s n e v′ t′ s′ n′ e′ : ℕ} → v ≤ v′ → t ≤ t′ → s ≤ s′ → n ≤ n′ → e ≤ e′ → LongEnough (numbersFor v′ t′ s′ n′ e′) (numbersFor v t s n e)
 numbers-within v t s n e =
     record { vertices = omega arith; normals = omega arith; indices = omega arith; spans = omega arith; account = omega arith; log = omega arith }
+
+pub longer : {a b c : Counts} → LongEnough a b → LongEnough b c → LongEnough a c
+longer p q = each (λ k. le-trans (at q k) (at p k))
 
 pub none-needed : (has : Counts) → LongEnough has noCounts
 unfolding noCounts

@@ -1,9 +1,11 @@
 -- One thing for each of the six lent buffers, in the order of a call. A buffer more is a line in each list of this file.
-use Prim.Native.Nat.{ℕ}
+use Prim.Native.Nat.{ℕ, _*_}
 use mathlib.Core.List.{List}
 use lib.Ieee.{Float}
 use denote.Ref.{now}
 use Rattle.lists.specs.Slices.{Slice}
+use Rattle.lid.specs.Log.{entryWidth}
+use Rattle.mesh.specs.Mesh.{spanWidth, accountWidth}
 
 pub data Buffer : Type 0 where
   vertices : Buffer
@@ -46,6 +48,10 @@ each f = record { vertices = f vertices; normals = f normals; indices = f indice
 -- how many numbers each buffer holds or gets
 abbrev pub Counts : Type 0
 Counts = PerBuffer (λ k. ℕ)
+
+-- the numbers that so many vertices, triangles, spans, objects and log entries take in each buffer
+abbrev pub numbersFor : ℕ → ℕ → ℕ → ℕ → ℕ → Counts
+numbersFor v t s n e = record { vertices = 3 * v; normals = 3 * v; indices = 3 * t; spans = spanWidth * s; account = accountWidth * n; log = entryWidth * e }
 
 -- what each buffer holds
 abbrev pub Buffers : Type 0

@@ -20,10 +20,10 @@ use Rattle.mesh_answer.specs.declared.Answered.the-variants.{Refused, Co
 use Rattle.mesh.specs.declared.Room.{Room}
 use Rattle.mesh.specs.declared.Room.the-variants.{Enough, Short}
 use Rattle.mesh.specs.PerBuffer.{Buffers}
-use Rattle.mesh.specs.Operations.{Answer, Built, output, noCounts, refusedWith, countsOf, done, measureScene, measure, tooShort, overlay, buildOutput, buildScene, build}
+use Rattle.mesh.specs.Operations.{Answer, Built, output, noCounts, refusedWith, countsOf, done, measure, tooShort, overlay, buildOutput, buildScene, build}
 use Rattle.mesh_answer.specs.Answers.{countsFrom, answerOf, builtWith, BuiltAndJudged, judged, buildAndValidate}
 use Rattle.mesh.specs.Demand3.{LongEnough, prefixes, Demand3Of}
-use Rattle.mesh.proofs.Rooms.{long-enough}
+use Rattle.mesh.proofs.Measured.{answers-measured}
 use Rattle.mesh.proofs.Demand3.{demand3}
 
 output-fits : (w b : Buffers) (n : Room)
@@ -38,13 +38,6 @@ module _ (limit : Float) where
   unfolding buildScene refusedWith noCounts
   scene-fits (refused r object) b = (zero-le, zero-le)
   scene-fits (accepted os) b = output-fits (output limit os) b (tooShort (countsOf b) (countsOf (output limit os)))
-
-  scene-answer : (t : Scene) (b : Buffers) (os : List Object) → t ≡ accepted os → LongEnough (countsOf b) (measureScene limit t .counts) → buildScene limit t b .answer ≡ measureScene limit t
-  unfolding measureScene buildScene buildOutput done
-  scene-answer t b os e l =
-      let w = output limit os in
-      let enough : tooShort (countsOf b) (countsOf w) ≡ Enough = long-enough (countsOf b) (countsOf w) (subst (λ (x : Scene). LongEnough (countsOf b) (measureScene limit x .counts)) e l) in
-      ap (λ (x : Scene). buildScene limit x b .answer) e ∙ ap (λ (n : Room). buildOutput w b n .answer) enough ∙ sym (ap (measureScene limit) e)
 
   module _ (s : List ℕ) (b : Buffers) where
     pub build-refused : (f : Refusal) (object : ℕ) → CheckedRefused f object ≡ checkedOf (scene s) → builtWith (Refused f object) b ≡ buildScene limit (scene s) b
@@ -79,8 +72,8 @@ module _ (s : List ℕ) (b : Buffers) {r : Built} (e : r ≡ build s b) where
     both-are = (λ j. record { built = r; validation = validated j }) ∙ ap judged e
 
     pub demand3-built : (os : List Object) → scene s ≡ accepted os → LongEnough (countsOf b) (measure s .counts) → Demand3Of minArea os (prefixes (r .answer .counts) (r .buffers)) x
-    unfolding build measure prefixes
+    unfolding prefixes
     demand3-built os k l =
         subst (Demand3Of minArea os (prefixes (r .answer .counts) (r .buffers))) (sym validated)
         (subst (λ (r : Built). Holds os (r .answer) (r .buffers)) (sym e)
-        (subst (λ (a : Answer). Holds os a (buildScene minArea (scene s) b .buffers)) (sym (scene-answer minArea (scene s) b os k l)) (demand3 s os b k l)))
+        (subst (λ (a : Answer). Holds os a (build s b .buffers)) (sym (answers-measured s b l)) (demand3 s os b k l)))

@@ -1,6 +1,7 @@
 // What the operations answer: specs/Answers.antt gives document 01's number and values for each case.
 ghost use mathlib.Core.Path.{_≡_};
-ghost use Rattle.mesh.specs.Contract.PerBuffer.{numbersFor, FitCounts};
+ghost use Rattle.mesh.specs.PerBuffer.{numbersFor};
+ghost use Rattle.mesh.specs.Contract.PerBuffer.{FitCounts};
 ghost use Rattle.mesh.specs.Operations.{noCounts, refusedWith};
 ghost use Rattle.mesh_answer.specs.Answers.{countsFrom, accepts, answerFrom, answerOf};
 use lid::ENTRY_WIDTH;

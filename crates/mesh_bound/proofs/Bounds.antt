@@ -1,5 +1,6 @@
--- What a list of objects comes to is at most what `mostCounts` says, whatever is measured, at every limit. Assumes nothing.
-use mathlib.Core.Path.{subst}
+-- What objects come to, at every limit, is at most what their headers tell, and what is counted of both groups of them, whatever is measured. So for
+-- every list of bytes `bound` is enough for Build. Assumes nothing.
+use mathlib.Core.Path.{_≡_, refl, subst}
 use mathlib.Core.Bool.{Bool, true, false, cond}
 use mathlib.Core.List.{List, [], _∷_}
 use Prim.Native.Nat.{ℕ, zero, suc, _≤_, zero-le}
@@ -10,25 +11,30 @@ use lib.ListN.{length}
 use lib.Ieee.{Float}
 use borrow.Author.Tests.{ne-eqb}
 use Rattle.lists.specs.Loops.{sumOf}
+use Rattle.float.specs.Number.{minArea}
 use Rattle.object.specs.declared.Extent.the-variants.{Box, Cylinder, Unsized}
 use Rattle.object.specs.Object.{Shape, solid, outline, sweep, roundSweep, Object}
+use Rattle.scene.specs.Scene.{Scene, refused, accepted, scene}
 use Rattle.face.proofs.Counts.{faces-account}
 use Rattle.face.proofs.Draws.{vertices-most}
 use Rattle.shape.specs.Price.{offered, solidPrice}
 use Rattle.shape.specs.Shapes.{facesOf, solidFaces, logOf}
 use Rattle.shape.proofs.Prices.{offered-count}
 use Rattle.shape.proofs.Sizes.{points, box-points, cylinder-points, outline-points, outline-most, outline-entries, sum-lengths, sweep-points, sweep-most, round-points, round-most}
-use Rattle.mesh.specs.Demand3.{LongEnough}
 use Rattle.mesh.specs.Mesh.{keptBy}
-use Rattle.mesh.specs.Operations.{output, countsOf}
-use Rattle.mesh.proofs.Rooms.{numbers-within}
+use Rattle.mesh.specs.PerBuffer.{each, Buffers}
+use Rattle.mesh.specs.Operations.{Answer, output, countsOf, done, measureScene, measure, build}
+use Rattle.mesh.specs.Demand3.{LongEnough}
+use Rattle.mesh.proofs.Rooms.{numbers-within, longer}
+use Rattle.mesh.proofs.Measured.{answers-measured}
 use Rattle.mesh_bound.specs.declared.Most.{Most}
 use Rattle.mesh_bound.specs.declared.Group.{Group}
 use Rattle.mesh_bound.specs.declared.Group.the-variants.{Lids, Others}
 use Rattle.mesh_bound.specs.declared.Counting.{Counting}
 use Rattle.mesh_bound.specs.declared.Counting.the-variants.{Exact, Highest}
-use Rattle.mesh_bound.specs.Contract.Most.{ofShape, solidMost, outlineMost, sweepMost, mostOf, exactOf, nothing as none, together, inGroup, countedBy, boundIn, boundOfAll, numbersOf, mostCounts}
-use Rattle.mesh_bound.proofs.Exact.{exact-counts}
+use Rattle.mesh_bound.specs.Most.{ofShape, solidMost, outlineMost, sweepMost, mostOf, nothing as none, together, ofAll, numbersOf, mostCounts, boundScene, bound}
+use Rattle.mesh_bound.specs.Contract.Groups.{exactOf, inGroup, countedBy, boundIn, boundOfAll}
+use Rattle.mesh_bound.proofs.Exact.{exact-counts, both-groups}
 
 pub record AtMost (a b : Most) : Type 0 where
   pub vertices : a .vertices ≤ b .vertices
@@ -78,6 +84,14 @@ module _ (limit : Float) where
 
   -- ---- all objects
 
+  all-within : (f g : Shape → Most) → ((sh : Shape) → AtMost (f sh) (g sh)) → (os : List Object) → AtMost (ofAll f os) (ofAll g os)
+  unfolding ofAll
+  all-within f g h [] = same none
+  all-within f g h (o ∷ os) = both (h (o .shape)) (all-within f g h os)
+
+  pub most-enough : (os : List Object) → AtMost (ofAll (exactOf limit) os) (ofAll mostOf os)
+  most-enough os = all-within (exactOf limit) mostOf most-within os
+
   group-within : (group : Group) (counting : Counting) (sh : Shape) → AtMost (boundIn group Exact limit sh) (boundIn group counting limit sh)
   unfolding boundIn countedBy
   group-within group Exact sh = same _
@@ -87,15 +101,33 @@ module _ (limit : Float) where
       by-group true = most-within sh
       by-group false = same none
 
-  all-within : (group : Group) (counting : Counting) (os : List Object) → AtMost (boundOfAll group Exact limit os) (boundOfAll group counting limit os)
-  unfolding boundOfAll
-  all-within group counting [] = same none
-  all-within group counting (o ∷ os) = both (group-within group counting (o .shape)) (all-within group counting os)
+  pub groups-enough : (others lids : Counting) (os : List Object) → AtMost (ofAll (exactOf limit) os) (together (boundOfAll Others others limit os) (boundOfAll Lids lids limit os))
+  unfolding boundOfAll boundIn inGroup countedBy
+  groups-enough others lids os =
+      subst (λ (m : Most). AtMost m (together (boundOfAll Others others limit os) (boundOfAll Lids lids limit os))) (both-groups limit Exact os)
+      (both (all-within _ _ (group-within Others others) os) (all-within _ _ (group-within Lids lids) os))
 
-  pub most-enough : (others lids : Counting) (os : List Object) → LongEnough (mostCounts others lids limit os) (countsOf (output limit os))
-  unfolding mostCounts
-  most-enough others lids os =
-      subst (LongEnough (mostCounts others lids limit os)) (exact-counts limit os) (within (both (all-within Others others os) (all-within Lids lids os)))
-    where
-      within : {a b : Most} → AtMost a b → LongEnough (numbersOf b (length os)) (numbersOf a (length os))
-      within q = numbers-within (q .vertices) (q .triangles) (q .spans) (le-refl (length os)) (q .entries)
+  -- with so much room that objects come to no more, there is room for what is written
+  pub enough-written : (os : List Object) {m : Most} → AtMost (ofAll (exactOf limit) os) m → LongEnough (numbersOf m (length os)) (countsOf (output limit os))
+  enough-written os {m} q =
+      subst (LongEnough (numbersOf m (length os))) (exact-counts limit os)
+      (numbers-within (q .vertices) (q .triangles) (q .spans) (le-refl (length os)) (q .entries))
+
+-- ---- for every list of bytes
+
+-- refused alike, and with no smaller counts
+abbrev NoLess : Answer → Answer → Type 0
+NoLess a b = (a .number ≡ b .number) × (a .object ≡ b .object) × LongEnough (a .counts) (b .counts)
+
+scene-enough : (limit : Float) (x : Scene) → NoLess (boundScene x) (measureScene limit x)
+unfolding boundScene measureScene mostCounts done
+scene-enough limit (refused f object) = (refl, refl, each (λ k. le-refl _))
+scene-enough limit (accepted os) = (refl, refl, enough-written limit os (most-enough limit os))
+
+pub bound-enough : (bytes : List ℕ) → NoLess (bound bytes) (measure bytes)
+unfolding bound measure
+bound-enough bytes = scene-enough minArea (scene bytes)
+
+-- Build into buffers as long as `bound` says, or longer, answers what Measure answers: it is not refused by 8 to 10
+pub bound-builds : (bytes : List ℕ) (b : Buffers) → LongEnough (countsOf b) (bound bytes .counts) → build bytes b .answer ≡ measure bytes
+bound-builds bytes b l = answers-measured bytes b (longer l (bound-enough bytes .2))

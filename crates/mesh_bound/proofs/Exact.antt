@@ -1,5 +1,5 @@
--- With all objects measured, `mostCounts` is what is written, at every limit. Assumes nothing.
-use mathlib.Core.Path.{_≡_, refl, ap, _∙_}
+-- What objects come to, measured, is what is written, at every limit; and both groups of them come to what all do. Assumes nothing.
+use mathlib.Core.Path.{_≡_, refl, ap₂, _∙_}
 use mathlib.Core.Bool.{Bool, true, false, not, cond}
 use mathlib.Core.List.{List, [], _∷_}
 use Prim.Native.Nat.{ℕ, zero, suc, _+_, _*_}
@@ -18,15 +18,22 @@ use Rattle.mesh.specs.Operations.{output, countsOf}
 use Rattle.mesh.proofs.Demand3.Spans.{piece-size}
 use Rattle.mesh.proofs.MeshSizes.{output-counts}
 use Rattle.mesh_bound.specs.declared.Most.{Most}
-use Rattle.mesh_bound.specs.declared.Group.the-variants.{Lids, Others}
-use Rattle.mesh_bound.specs.declared.Counting.the-variants.{Exact}
-use Rattle.mesh_bound.specs.Contract.Most.{exactOf, hasLid, nothing as none, together, inGroup, countedBy, boundIn, boundOfAll, numbersOf, mostCounts}
+use Rattle.mesh_bound.specs.declared.Group.the-variants.{All, Lids, Others}
+use Rattle.mesh_bound.specs.declared.Counting.{Counting}
+use Rattle.mesh_bound.specs.Most.{nothing as none, together, ofAll, numbersOf}
+use Rattle.mesh_bound.specs.Contract.Groups.{exactOf, hasLid, inGroup, countedBy, boundIn, boundOfAll}
 
 pub together-none : (m : Most) → together m none ≡ m
 together-none m = λ i. record { vertices = add-zero (m .vertices) i; triangles = add-zero (m .triangles) i; spans = add-zero (m .spans) i; entries = add-zero (m .entries) i }
 
 pub none-together : (m : Most) → together none m ≡ m
 none-together m = λ i. record { vertices = zero-add (m .vertices) i; triangles = zero-add (m .triangles) i; spans = zero-add (m .spans) i; entries = zero-add (m .entries) i }
+
+exchanged : (a b c d : Most) → together (together a b) (together c d) ≡ together (together a c) (together b d)
+exchanged a b c d = λ i. record { vertices = swap (a .vertices) (b .vertices) (c .vertices) (d .vertices) i; triangles = swap (a .triangles) (b .triangles) (c .triangles) (d .triangles) i; spans = swap (a .spans) (b .spans) (c .spans) (d .spans) i; entries = swap (a .entries) (b .entries) (c .entries) (d .entries) i }
+  where
+    swap : (a b c d : ℕ) → a + b + (c + d) ≡ a + c + (b + d)
+    swap a b c d = omega arith
 
 one-or-none : {A : Type 0} (n t : ℕ) (x : A) → n ≡ 3 * t → length (cond (eqb n 0) [] (x ∷ [])) ≡ cond (eqb t 0) 0 1
 one-or-none zero zero x h = refl
@@ -51,15 +58,7 @@ module _ (limit : Float) where
       let b′ = b + length (q .vertices) in
       omega (arith, length-append (p .vertices) (writeFaces limit a′ fs .vertices), length-append (q .vertices) (writeFaces limit b′ fs .vertices), kept-alike a b f (keptOf limit f), alike a′ b′ fs)
 
-  -- ---- one object, in one of the two groups
-
-  one-group : (lid : Bool) (m : Most) → together (cond (not lid) m none) (cond lid m none) ≡ m
-  one-group true m = none-together m
-  one-group false m = together-none m
-
-  groups-exact : (sh : Shape) → together (boundIn Others Exact limit sh) (boundIn Lids Exact limit sh) ≡ exactOf limit sh
-  unfolding boundIn inGroup countedBy
-  groups-exact sh = one-group (hasLid sh) (exactOf limit sh)
+  -- ---- one object
 
   span-exact : (v i : ℕ) (o : Object) → length (spanOf (o .id) v i (pieceOf limit v o)) ≡ exactOf limit (o .shape) .spans
   unfolding spanOf exactOf
@@ -68,31 +67,43 @@ module _ (limit : Float) where
   -- ---- all objects
 
   abbrev all : List Object → Most
-  all os = together (boundOfAll Others Exact limit os) (boundOfAll Lids Exact limit os)
+  all = ofAll (exactOf limit)
 
   kept-exact : (os : List Object) → all os .triangles ≡ sumOf (λ (o : Object). keptBy limit (o .shape)) os
-  unfolding sumOf boundOfAll exactOf
+  unfolding sumOf ofAll exactOf
   kept-exact [] = refl
-  kept-exact (o ∷ os) = omega (arith, ap (λ (m : Most). m .triangles) (groups-exact (o .shape)), kept-exact os)
+  kept-exact (o ∷ os) = omega (arith, kept-exact os)
 
   logs-exact : (os : List Object) → all os .entries ≡ length (logsOf os)
-  unfolding logsOf join boundOfAll exactOf
+  unfolding logsOf join ofAll exactOf
   logs-exact [] = refl
-  logs-exact (o ∷ os) = omega (arith, ap (λ (m : Most). m .entries) (groups-exact (o .shape)), length-append (logOf (o .shape)) (logsOf os), logs-exact os)
+  logs-exact (o ∷ os) = omega (arith, length-append (logOf (o .shape)) (logsOf os), logs-exact os)
 
   mesh-exact : (os : List Object) (v i : ℕ) → (all os .vertices ≡ length (meshFrom limit v i os .vertices)) × (all os .spans ≡ length (meshFrom limit v i os .spans))
-  unfolding meshFrom addPiece boundOfAll pieceOf exactOf
+  unfolding meshFrom addPiece ofAll pieceOf exactOf
   mesh-exact [] v i = (refl, refl)
   mesh-exact (o ∷ os) v i =
       let p = pieceOf limit v o in
       let m = meshFrom limit (v + length (p .vertices)) (i + length (p .indices)) os in
       let ih = mesh-exact os (v + length (p .vertices)) (i + length (p .indices)) in
-      let e = groups-exact (o .shape) in
       let s = spanOf (o .id) v i p in (
-        omega (arith, ih .0, ap (λ (m : Most). m .vertices) e, length-append (p .vertices) (m .vertices), alike v 0 (facesOf (o .shape))),
-        omega (arith, ih .1, ap (λ (m : Most). m .spans) e, length-append s (m .spans), span-exact v i o),
+        omega (arith, ih .0, length-append (p .vertices) (m .vertices), alike v 0 (facesOf (o .shape))),
+        omega (arith, ih .1, length-append s (m .spans), span-exact v i o),
       )
 
-  pub exact-counts : (os : List Object) → mostCounts Exact Exact limit os ≡ countsOf (output limit os)
-  unfolding mostCounts
+  pub exact-counts : (os : List Object) → numbersOf (ofAll (exactOf limit) os) (length os) ≡ countsOf (output limit os)
   exact-counts os = (λ i. numbersOf (record { vertices = mesh-exact os 0 0 .0 i; triangles = kept-exact os i; spans = mesh-exact os 0 0 .1 i; entries = logs-exact os i }) (length os)) ∙ output-counts limit os
+
+  -- ---- both groups
+
+  one-group : (lid : Bool) (m : Most) → together (cond (not lid) m none) (cond lid m none) ≡ m
+  one-group true m = none-together m
+  one-group false m = together-none m
+
+  pub both-groups : (counting : Counting) (os : List Object) → together (boundOfAll Others counting limit os) (boundOfAll Lids counting limit os) ≡ boundOfAll All counting limit os
+  unfolding boundOfAll ofAll boundIn inGroup
+  both-groups counting [] = refl
+  both-groups counting (o ∷ os) =
+      let m = countedBy counting limit (o .shape) in
+      exchanged (cond (not (hasLid (o .shape))) m none) (boundOfAll Others counting limit os) (cond (hasLid (o .shape)) m none) (boundOfAll Lids counting limit os)
+      ∙ ap₂ together (one-group (hasLid (o .shape)) m) (both-groups counting os)

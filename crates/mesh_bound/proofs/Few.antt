@@ -6,7 +6,8 @@ use Rattle.mesh_bound.specs.declared.Most.{Most}
 use Rattle.scene_field.specs.Layout.{mostBytes, mostObjects}
 use Rattle.mesh.specs.Contract.PerBuffer.{FitCounts}
 use Rattle.mesh.proofs.Rooms.{numbers-fit}
-use Rattle.mesh_bound.specs.Contract.Most.{together, numbersOf, Few}
+use Rattle.mesh_bound.specs.Most.{together, numbersOf}
+use Rattle.mesh_bound.specs.Contract.Groups.{Few, FewOfBoth}
 use Rattle.mesh_bound.proofs.Bounds.{AtMost}
 
 pub few-less : {a b : Most} {bytes n : ℕ} → AtMost a b → Few b bytes n → Few a bytes n
@@ -31,8 +32,10 @@ few-together f g =
       entries = omega (arith, f .entries, g .entries);
     }
 
--- what both groups of n objects take in each buffer fits u32
-pub few-fit : {a b : Most} {n : ℕ} → Few a mostBytes mostObjects → Few b mostBytes mostObjects → n ≤ mostObjects → FitCounts (numbersOf (together a b) n)
-few-fit p q h =
-    numbers-fit _ _ _ _ _ (omega (arith, p .vertices, q .vertices)) (omega (arith, p .triangles, q .triangles)) (omega (arith, p .spans, q .spans)) (omega arith)
-    (omega (arith, p .entries, q .entries))
+pub few-all : {m : Most} → Few m mostBytes mostObjects → FewOfBoth m
+few-all f = few-among f (omega arith) (omega arith)
+
+-- what n objects take in each buffer fits u32
+pub few-fit : {m : Most} {n : ℕ} → FewOfBoth m → n ≤ mostObjects → FitCounts (numbersOf m n)
+few-fit f h =
+    numbers-fit _ _ _ _ _ (omega (arith, f .vertices)) (omega (arith, f .triangles)) (omega (arith, f .spans)) (omega arith) (omega (arith, f .entries))

@@ -6,7 +6,8 @@ ghost use Prim.Native.Nat.{_+_, _-_, _≤_};
 ghost use lib.Ieee.{lt};
 ghost use Rattle.float.specs.Number.{zerof};
 ghost use Rattle.scene_field.specs.Layout.{mostHoles, mostCorners, mostSections};
-ghost use Rattle.mesh_bound.specs.Contract.Most.{ofShape, solidMost, outlineMost, sweepMost, together, Few};
+ghost use Rattle.mesh_bound.specs.Most.{ofShape, solidMost, outlineMost, sweepMost, together};
+ghost use Rattle.mesh_bound.specs.Contract.Groups.{FewOfBoth};
 use object::Extent;
 
 // The most vertices, triangles, spans and log entries.
@@ -17,8 +18,9 @@ pub struct Most {
     pub entries: u32,
 }
 
-// The objects with lids, and the others: measuring a lid takes cutting it.
+// All objects, those with lids, and the others: measuring a lid takes cutting it.
 pub enum Group {
+    All,
     Lids,
     Others,
 }
@@ -104,7 +106,7 @@ pub fn sweep_most(round: bool, sections: u32) -> Most
 
 // What both groups of a scene's objects come to.
 pub fn add(a: Most, b: Most) -> Most
-    requires { ⌜ Few (together a b) 33554432 131072 ⌝ }
+    requires { ⌜ FewOfBoth (together a b) ⌝ }
     ensures { λ r. ⌜ r ≡ together a b ⌝ }
 {
     Most {

@@ -14,7 +14,8 @@ use Rattle.shape.specs.Contract.Drawn.{DrewObject}
 use Rattle.shape.specs.Contract.Stages.{lastOf}
 use Rattle.shape.proofs.Stages.{stages-faces}
 use Rattle.mesh.specs.Mesh.{keptBy}
-use Rattle.mesh_bound.specs.Contract.Most.{ofShape, exactOf}
+use Rattle.mesh_bound.specs.Most.{ofShape}
+use Rattle.mesh_bound.specs.Contract.Groups.{exactOf}
 
 pub drawn-exact : {limit : Float} {sh : Shape} {vs ns vs′ ns′ : List Float} {is ls is′ ls′ : List ℕ} {d : Drawn}
     → DrewObject limit sh 0 vs ns is ls d vs′ ns′ is′ ls′ → ofShape (lastOf (d .after) .vertices) (lastOf (d .after) .kept) (d .entries) ≡ exactOf limit sh

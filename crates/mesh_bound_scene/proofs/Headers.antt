@@ -21,7 +21,8 @@ use Rattle.mesh_bound.specs.declared.Most.{Most}
 use Rattle.mesh_bound.specs.declared.Group.{Group}
 use Rattle.mesh_bound.specs.declared.Counting.{Counting}
 use Rattle.mesh_bound.specs.declared.Counting.the-variants.{Exact, Highest}
-use Rattle.mesh_bound.specs.Contract.Most.{ofShape, solidMost, outlineMost, sweepMost, mostOf, inGroup, countedBy, boundIn, Few}
+use Rattle.mesh_bound.specs.Most.{ofShape, solidMost, outlineMost, sweepMost, mostOf}
+use Rattle.mesh_bound.specs.Contract.Groups.{inGroup, countedBy, boundIn, Few}
 use Rattle.mesh_bound.proofs.Bounds.{most-within}
 use Rattle.mesh_bound.proofs.Few.{few-among, few-less}
 

@@ -17,7 +17,8 @@ use Rattle.shape.specs.Contract.Drawn.{CanDraw}
 use Rattle.mesh_bound.specs.declared.Most.{Most}
 use Rattle.mesh_bound.specs.declared.Group.{Group}
 use Rattle.mesh_bound.specs.declared.Counting.{Counting}
-use Rattle.mesh_bound.specs.Contract.Most.{nothing, together, boundIn, boundOfAll, Few}
+use Rattle.mesh_bound.specs.Most.{nothing, together, ofAll}
+use Rattle.mesh_bound.specs.Contract.Groups.{boundIn, boundOfAll, Few, FewOfBoth}
 use Rattle.mesh_bound.proofs.Exact.{together-none, none-together}
 use Rattle.mesh_bound.proofs.Few.{few-among, few-together}
 use Rattle.mesh_bound_scene.proofs.Headers.{few-bound}
@@ -88,11 +89,11 @@ module _ {limit : Float} {group : Group} {counting : Counting} {s : List ℕ} {n
         few-more =
             few-together (w .few) (subst (λ (y : Most). Few y (h .size) 1) (sym q) (subst (λ (y : Header). Few (bound y) (y .size) 1) (sym e) few-next))
 
-        pub can-sum : Few (together m x) 33554432 131072
+        pub can-sum : FewOfBoth (together m x)
         can-sum = let i = place-fits in let few = w .known .few in few-among few-more (omega arith) (omega arith)
 
         pub sums-next : {m′ : Most} → m′ ≡ together m x → Sums limit group counting s n m′ (at + h .size) (k + 1)
-        unfolding boundOfAll
+        unfolding boundOfAll ofAll
         sums-next d =
             let y = bound (headerAt s at) in
             let is : x ≡ y = q ∙ ap bound e in
@@ -112,7 +113,7 @@ module _ {limit : Float} {group : Group} {counting : Counting} {s : List ℕ} {n
             }
 
   pub sums-end : n ≤ k → Few m 16777216 65536 × ((os′ : List Object) → scene s ≡ accepted os′ → m ≡ sum os′)
-  unfolding boundOfAll
+  unfolding boundOfAll ofAll
   sums-end h =
       let size = w .known .size in
       let few = w .known .few in

@@ -1,6 +1,6 @@
 // The most that the objects of an accepted scene can come to, told by the headers of their records
-// alone, and what they come to, measured. Objects with lids and those without are summed apart:
-// measuring lids takes far longer, and is left to last.
+// alone, and what they come to, measured. Objects with lids and those without can be summed apart:
+// measuring lids takes far longer, and Build leaves it to last.
 ghost use mathlib.Core.Path.{_≡_};
 ghost use mathlib.Core.List.{List};
 ghost use Prim.Native.Nat.{ℕ};
@@ -11,7 +11,8 @@ ghost use Rattle.scene.specs.Scene.{scene, accepted};
 ghost use Rattle.scene.specs.Contract.Answers.{checkedOf};
 ghost use Rattle.scene.specs.Contract.Headers.{shapeOf, Limits};
 ghost use Rattle.shape.specs.Contract.Drawn.{CanDraw};
-ghost use Rattle.mesh_bound.specs.Contract.Most.{mostOf, exactOf, hasLid, inGroup, boundIn, boundOfAll, Few};
+ghost use Rattle.mesh_bound.specs.Most.{mostOf};
+ghost use Rattle.mesh_bound.specs.Contract.Groups.{exactOf, hasLid, inGroup, boundIn, boundOfAll, Few};
 use mesh_bound::Counting;
 use mesh_bound::Group;
 use mesh_bound::Most;
@@ -74,12 +75,13 @@ fn in_group(body: Body, group: Group) -> bool
     ensures { λ r. ⌜ ((s : List ℕ) (i : ℕ) → r ≡ inGroup group (shapeOf s i body)) ⌝ }
 {
     match group {
+        Group::All => true,
         Group::Lids => has_lid(body),
         Group::Others => !has_lid(body),
     }
 }
 
-// Nothing for an object of the other group.
+// Nothing for an object that is not in the group.
 fn bound_at(s: &[u8], i: usize, body: Body, limit: f32, group: Group, counting: Counting) -> Most
     requires { ⌜ CanDraw (now s) i body 0 ⌝ }
     ensures { λ r. ⌜ r ≡ boundIn group counting limit (shapeOf (now (s .entry)) i body) ⌝ }

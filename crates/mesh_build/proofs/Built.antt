@@ -2,7 +2,7 @@
 use mathlib.Core.Path.{_≡_, refl, sym, ap, ap₂, _∙_, subst}
 use mathlib.Core.List.{List}
 use Prim.Native.Nat.{ℕ, _≤_}
-use native.Mathlib.Nat.{le-trans, lt-of-le-of-lt}
+use native.Mathlib.Nat.{lt-of-le-of-lt}
 use native.Mathlib.Omega.{arith}
 use lib.ListN.{length}
 use lib.Ieee.{Float}
@@ -24,14 +24,12 @@ use Rattle.mesh_progress.specs.Contract.Wrote.{stored, WroteAll}
 use Rattle.mesh_progress.proofs.Pass.Objects.{counts-fit}
 use Rattle.mesh_progress.proofs.Pass.Tails.{sets-over}
 use Rattle.mesh.specs.Demand3.{LongEnough}
-use Rattle.mesh.proofs.Rooms.{lengths-fit, long-enough, enough-room}
+use Rattle.mesh.proofs.Rooms.{longer, lengths-fit, long-enough, enough-room}
 use Rattle.mesh_bound.specs.declared.Most.{Most}
-use Rattle.mesh_bound.specs.declared.Group.the-variants.{Lids, Others}
-use Rattle.mesh_bound.specs.declared.Counting.{Counting}
-use Rattle.mesh_bound.specs.declared.Counting.the-variants.{Exact}
-use Rattle.mesh_bound.specs.Contract.Most.{numbersOf, together, Few}
-use Rattle.mesh_bound.proofs.Bounds.{most-enough}
-use Rattle.mesh_bound_scene.proofs.Counts.{SumOf, groups-counts, measured-counts}
+use Rattle.mesh_bound.specs.Most.{numbersOf}
+use Rattle.mesh_bound.proofs.Exact.{exact-counts}
+use Rattle.mesh_bound.proofs.Bounds.{enough-written}
+use Rattle.mesh_bound_scene.proofs.Counts.{Measured, Suffices, objects-count}
 use Rattle.mesh_build.specs.declared.Plan.{Plan}
 use Rattle.mesh_build.specs.declared.Plan.the-variants.{Refuse, Write}
 use Rattle.mesh_build.specs.Contract.Plan.{PlanBy, PlanHolds}
@@ -39,9 +37,6 @@ use Rattle.mesh_build.specs.Contract.Plan.{PlanBy, PlanHolds}
 pub stored-over : (w b : Buffers) → LongEnough (countsOf b) (countsOf w) → stored w b ≡ overlay w b
 unfolding stored overlay
 stored-over w b l = λ i. each (λ k. sets-over (at w k) (at b k) (lengths-fit w b l k) i)
-
-pub longer : {a b c : Counts} → LongEnough a b → LongEnough b c → LongEnough a c
-longer p q = each (λ k. le-trans (at q k) (at p k))
 
 -- what fits u32, and no more than that
 fewer : {a b : Counts} → FitCounts a → LongEnough a b → FitCounts b
@@ -72,20 +67,23 @@ module _ (limit : Float) (s : List ℕ) (has : Counts) where
   pub plan-refused : (f : Refusal) (object : ℕ) → CheckedRefused f object ≡ checkedOf (scene s) → PlanHolds limit s has (Refuse f object)
   plan-refused f object h = λ b e. build-refused limit s b f object h
 
-  module _ (n : ℕ) (h : Accepted n ≡ checkedOf (scene s)) {a b : Most} where
-    -- with room for both groups, each measured or not
-    pub plan-bounded : (others lids : Counting) → SumOf limit s Others others a → SumOf limit s Lids lids b → {r : Plan} {k : ℕ} → r ≡ Write k → PlanBy has (numbersOf (together a b) n) n r → PlanHolds limit s has (Write n)
-    plan-bounded others lids p q is d =
-        let x = subst (PlanBy has (numbersOf (together a b) n) n) is d in
-        (h, λ os e. let most = most-enough limit others lids os in (longer (subst (LongEnough has) (groups-counts limit s n h os e others lids p q) (x .1)) most, fewer (subst FitCounts (groups-counts limit s n h os e others lids p q) (x .2)) most))
+  module _ (n : ℕ) (h : Accepted n ≡ checkedOf (scene s)) {m : Most} where
+    -- with room for what suffices
+    pub plan-bounded : Suffices limit s m → {r : Plan} {k : ℕ} → r ≡ Write k → PlanBy has (numbersOf m n) n r → PlanHolds limit s has (Write n)
+    plan-bounded p is d =
+        let x = subst (PlanBy has (numbersOf m n) n) is d in
+        (h, λ os e. let enough = rw (← objects-count limit s n h os e) at (enough-written limit os (p os e)) in (longer (x .1) enough, fewer (x .2) enough))
 
-    -- with both measured
-    pub plan-measured : SumOf limit s Others Exact a → SumOf limit s Lids Exact b → (r : Plan) → PlanBy has (numbersOf (together a b) n) n r → PlanHolds limit s has r
+    measured-counts : Measured limit s m → (os : List Object) → scene s ≡ accepted os → numbersOf m n ≡ countsOf (output limit os)
+    measured-counts p os e = (λ i. numbersOf (p os e i) (objects-count limit s n h os e i)) ∙ exact-counts limit os
+
+    -- with all measured
+    pub plan-exact : Measured limit s m → (r : Plan) → PlanBy has (numbersOf m n) n r → PlanHolds limit s has r
     unfolding buildScene
-    plan-measured p q (Refuse x object) d =
-        λ lent f. build-accepted limit s lent n (refusedBuild x object lent) h (λ os e. d (output limit os) lent ∙ ap₂ (λ (x y : Counts). buildOutput (output limit os) lent (tooShort x y)) (sym f) (measured-counts limit s n h os e p q))
-    plan-measured p q (Write k) d =
-        (subst (λ (m : ℕ). Accepted m ≡ checkedOf (scene s)) (sym (d .0)) h, λ os e. (subst (LongEnough has) (measured-counts limit s n h os e p q) (d .1), subst FitCounts (measured-counts limit s n h os e p q) (d .2)))
+    plan-exact p (Refuse x object) d =
+        λ lent f. build-accepted limit s lent n (refusedBuild x object lent) h (λ os e. d (output limit os) lent ∙ ap₂ (λ (x y : Counts). buildOutput (output limit os) lent (tooShort x y)) (sym f) (measured-counts p os e))
+    plan-exact p (Write k) d =
+        (subst (λ (m : ℕ). Accepted m ≡ checkedOf (scene s)) (sym (d .0)) h, λ os e. (subst (LongEnough has) (measured-counts p os e) (d .1), subst FitCounts (measured-counts p os e) (d .2)))
 
   -- the planned objects fit the program's counts
   pub can-write : (n : ℕ) → PlanHolds limit s has (Write n) → CanAddAll limit s beginning

@@ -4,14 +4,15 @@ mod pass;
 
 ghost use mathlib.Core.Path.{_≡_};
 ghost use Prim.Native.Nat.{_≤_};
-ghost use Rattle.scene_field.specs.Layout.{mostBytes, mostObjects};
+ghost use Rattle.scene_field.specs.Layout.{mostObjects};
 ghost use Rattle.scene.specs.declared.scenes.Checked.the-variants.{Accepted};
 ghost use Rattle.scene.specs.Scene.{scene};
 ghost use Rattle.scene.specs.Contract.Answers.{checkedOf};
 ghost use Rattle.mesh.specs.Operations.{buildScene, build};
 ghost use Rattle.mesh_answer.specs.Answers.{Builds};
 ghost use Rattle.mesh_answer.specs.Contract.Answers.{lengthsFrom};
-ghost use Rattle.mesh_bound.specs.Contract.Most.{numbersOf, together, Few};
+ghost use Rattle.mesh_bound.specs.Most.{numbersOf};
+ghost use Rattle.mesh_bound.specs.Contract.Groups.{FewOfBoth};
 ghost use Rattle.mesh_build.specs.Contract.Plan.{PlanBy, PlanHolds};
 use crate::pass::write_objects;
 use float::MIN_AREA;
@@ -21,6 +22,7 @@ use mesh_answer::Lengths;
 use mesh_bound::Counting;
 use mesh_bound::Group;
 use mesh_bound::Most;
+use mesh_bound::add;
 use mesh_bound_scene::bound_of_all;
 use mesh_measure::room::bound_counts;
 use mesh_measure::room::room;
@@ -33,39 +35,43 @@ pub enum Plan {
     Write(u32),
 }
 
-// By what both groups of n objects come to.
-fn plan_bounds(has: Lengths, others: Most, lids: Most, n: u32) -> Plan
-    requires { ⌜ Few others mostBytes mostObjects × Few lids mostBytes mostObjects × (n ≤ mostObjects) ⌝ }
-    ensures { λ r. ⌜ PlanBy (lengthsFrom has) (numbersOf (together others lids) n) n r ⌝ }
+// By what n objects come to.
+fn plan_bounds(has: Lengths, m: Most, n: u32) -> Plan
+    requires { ⌜ FewOfBoth m × (n ≤ mostObjects) ⌝ }
+    ensures { λ r. ⌜ PlanBy (lengthsFrom has) (numbersOf m n) n r ⌝ }
 {
-    match room(has, bound_counts(others, lids, n)) {
+    match room(has, bound_counts(m, n)) {
         Room::Enough => Plan::Write(n),
         Room::Short(f) => Plan::Refuse(f, 0),
     }
 }
 
-// The n objects of an accepted scene: by the most that they can come to, then with those without
-// lids measured, which takes drawing but no cutting, then with all measured, which is exact and
-// so tells the refusal too. No object is drawn twice for the plan; writing then draws it again.
+// The n objects of an accepted scene with those without lids measured, which takes drawing but no
+// cutting, then with all measured, which is exact and so tells the refusal too. No object is drawn
+// twice for the plan; writing then draws it again.
+fn plan_measured(s: &[u8], n: u32, limit: f32, has: Lengths) -> Plan
+    requires { ⌜ Accepted n ≡ checkedOf (scene (now s)) ⌝ }
+    ensures { λ r. ⌜ PlanHolds limit (now (s .entry)) (lengthsFrom has) r ⌝ }
+{
+    let others = bound_of_all(s, n, limit, Group::Others, Counting::Exact);
+    let most = bound_of_all(s, n, limit, Group::Lids, Counting::Highest);
+    if let Plan::Write(_) = plan_bounds(has, add(others, most), n) {
+        return Plan::Write(n);
+    }
+    let lids = bound_of_all(s, n, limit, Group::Lids, Counting::Exact);
+    plan_bounds(has, add(others, lids), n)
+}
+
+// First by the most that they can come to.
 fn plan_objects(s: &[u8], n: u32, limit: f32, has: Lengths) -> Plan
     requires { ⌜ Accepted n ≡ checkedOf (scene (now s)) ⌝ }
     ensures { λ r. ⌜ PlanHolds limit (now (s .entry)) (lengthsFrom has) r ⌝ }
 {
-    let lids = bound_of_all(s, n, limit, Group::Lids, Counting::Highest);
-    let most = bound_of_all(s, n, limit, Group::Others, Counting::Highest);
-    if let Plan::Write(_) = plan_bounds(has, most, lids, n) {
+    let most = bound_of_all(s, n, limit, Group::All, Counting::Highest);
+    if let Plan::Write(_) = plan_bounds(has, most, n) {
         return Plan::Write(n);
     }
-    let others = bound_of_all(s, n, limit, Group::Others, Counting::Exact);
-    if let Plan::Write(_) = plan_bounds(has, others, lids, n) {
-        return Plan::Write(n);
-    }
-    plan_bounds(
-        has,
-        others,
-        bound_of_all(s, n, limit, Group::Lids, Counting::Exact),
-        n,
-    )
+    plan_measured(s, n, limit, has)
 }
 
 fn plan_scene(s: &[u8], limit: f32, has: Lengths) -> Plan

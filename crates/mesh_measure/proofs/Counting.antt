@@ -4,38 +4,53 @@ use mathlib.Core.List.{List}
 use Prim.Native.Nat.{ℕ}
 use lib.Ieee.{Float}
 use Rattle.float.specs.Number.{minArea}
-use Rattle.object.specs.Object.{Object}
 use Rattle.refusal.specs.declared.Refusal.{Refusal}
 use Rattle.scene.specs.declared.scenes.Checked.the-variants.{Refused as CheckedRefused, Accepted}
 use Rattle.scene.specs.Scene.{Scene, refused, accepted, scene}
 use Rattle.scene.specs.Contract.Answers.{checkedOf, objectsOf}
 use Rattle.scene.proofs.Walk.{checked-accepted, checked-refused}
-use Rattle.mesh.specs.Operations.{Answer, refusedWith, done, measureScene, measure}
+use Rattle.mesh.specs.Operations.{refusedWith, done, measureScene, measure}
 use Rattle.mesh_answer.specs.declared.Counted.{Counted}
 use Rattle.mesh_answer.specs.Answers.{countsFrom, accepts}
+use Rattle.mesh_bound.specs.declared.Most.{Most}
+use Rattle.mesh_bound.specs.declared.Group.the-variants.{All}
 use Rattle.mesh_bound.specs.declared.Counting.{Counting}
-use Rattle.mesh_bound.specs.declared.Counting.the-variants.{Exact}
+use Rattle.mesh_bound.specs.declared.Counting.the-variants.{Exact, Highest}
+use Rattle.mesh_bound.specs.Most.{numbersOf, mostCounts, boundScene, bound}
+use Rattle.mesh_bound.specs.Contract.Groups.{inGroup, countedBy, boundIn, boundOfAll}
 use Rattle.mesh_bound.proofs.Exact.{exact-counts}
-use Rattle.mesh_measure.specs.Contract.Bounds.{boundOf, boundScene}
+use Rattle.mesh_bound_scene.proofs.Counts.{SumOf, objects-count}
+use Rattle.mesh_measure.specs.Contract.Counted.{countedScene}
 
 module _ (limit : Float) (s : List ℕ) (counting : Counting) where
-  pub bound-refused : (f : Refusal) (object : ℕ) → CheckedRefused f object ≡ checkedOf (scene s) → refusedWith f object ≡ boundScene counting limit (scene s)
-  unfolding boundScene
-  bound-refused f object h = sym (ap (boundScene counting limit) (checked-refused (scene s) f object h))
+  pub counted-refused : (f : Refusal) (object : ℕ) → CheckedRefused f object ≡ checkedOf (scene s) → refusedWith f object ≡ countedScene counting limit (scene s)
+  unfolding countedScene
+  counted-refused f object h = sym (ap (countedScene counting limit) (checked-refused (scene s) f object h))
 
-  pub bound-accepted : (n : ℕ) (c : Counted) → Accepted n ≡ checkedOf (scene s) → ((os : List Object) → scene s ≡ accepted os → countsFrom c ≡ boundOf counting limit os)
-      → accepts c ≡ boundScene counting limit (scene s)
-  unfolding boundScene
-  bound-accepted n c h k =
-      let q = checked-accepted s n h in
-      (λ i. record { number = 0; object = 0; counts = k (objectsOf (scene s)) (q .is) i }) ∙ sym (ap (boundScene counting limit) (q .is))
-
-scene-exact : (limit : Float) (x : Scene) → boundScene Exact limit x ≡ measureScene limit x
-unfolding boundScene boundOf measureScene done
-scene-exact limit (refused r object) = refl
-scene-exact limit (accepted os) = λ i. record { number = 0; object = 0; counts = exact-counts limit os i }
+  pub counted-accepted : (n : ℕ) {m : Most} (c : Counted) → Accepted n ≡ checkedOf (scene s) → SumOf limit s All counting m → countsFrom c ≡ numbersOf m n
+      → accepts c ≡ countedScene counting limit (scene s)
+  unfolding countedScene
+  counted-accepted n c h p k =
+      let os = objectsOf (scene s) in
+      let e = checked-accepted s n h .is in
+      (λ i. record { number = 0; object = 0; counts = (k ∙ λ j. numbersOf (p os e j) (objects-count limit s n h os e j)) i }) ∙ sym (ap (countedScene counting limit) e)
 
 -- measured, it is Measure
-pub bound-exact : (s : List ℕ) → boundScene Exact minArea (scene s) ≡ measure s
+scene-exact : (limit : Float) (x : Scene) → countedScene Exact limit x ≡ measureScene limit x
+unfolding countedScene boundOfAll boundIn inGroup countedBy measureScene done
+scene-exact limit (refused f object) = refl
+scene-exact limit (accepted os) = λ i. record { number = 0; object = 0; counts = exact-counts limit os i }
+
+pub counted-exact : (s : List ℕ) → countedScene Exact minArea (scene s) ≡ measure s
 unfolding measure
-bound-exact s = scene-exact minArea (scene s)
+counted-exact s = scene-exact minArea (scene s)
+
+-- by the headers, it is the bound, at every limit
+scene-highest : (limit : Float) (x : Scene) → countedScene Highest limit x ≡ boundScene x
+unfolding countedScene boundOfAll boundIn inGroup countedBy boundScene mostCounts
+scene-highest limit (refused f object) = refl
+scene-highest limit (accepted os) = refl
+
+pub counted-highest : (limit : Float) (s : List ℕ) → countedScene Highest limit (scene s) ≡ bound s
+unfolding bound
+counted-highest limit s = scene-highest limit (scene s)

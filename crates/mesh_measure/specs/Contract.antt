@@ -1,2 +1,2 @@
 -- What only serves contracts: no exported contract rests on it.
-pub mod Bounds
+pub mod Counted

@@ -2,25 +2,24 @@
 ghost use mathlib.Core.Path.{_≡_};
 ghost use Prim.Native.Nat.{_≤_};
 ghost use lib.Dec.{ltb};
-ghost use Rattle.scene_field.specs.Layout.{mostBytes, mostObjects};
+ghost use Rattle.scene_field.specs.Layout.{mostObjects};
 ghost use Rattle.mesh.specs.Operations.{tooShort};
 ghost use Rattle.mesh_answer.specs.Answers.{countsFrom};
 ghost use Rattle.mesh_answer.specs.Contract.Answers.{lengthsFrom};
-ghost use Rattle.mesh_bound.specs.Contract.Most.{together, numbersOf, Few};
+ghost use Rattle.mesh_bound.specs.Most.{numbersOf};
+ghost use Rattle.mesh_bound.specs.Contract.Groups.{FewOfBoth};
 use mesh::Room;
 use mesh_answer::Counted;
 use mesh_answer::Lengths;
 use mesh_answer::numbers_for;
 use mesh_bound::Most;
-use mesh_bound::add;
 use refusal::Refusal;
 
-// The numbers that n objects take in each buffer, by what both groups of them come to.
-pub fn bound_counts(others: Most, lids: Most, n: u32) -> Counted
-    requires { ⌜ Few others mostBytes mostObjects × Few lids mostBytes mostObjects × (n ≤ mostObjects) ⌝ }
-    ensures { λ r. ⌜ countsFrom r ≡ numbersOf (together others lids) n ⌝ }
+// The numbers that n objects take in each buffer, by what they come to.
+pub fn bound_counts(m: Most, n: u32) -> Counted
+    requires { ⌜ FewOfBoth m × (n ≤ mostObjects) ⌝ }
+    ensures { λ r. ⌜ countsFrom r ≡ numbersOf m n ⌝ }
 {
-    let m = add(others, lids);
     numbers_for(m.vertices, m.triangles, m.spans, n, m.entries)
 }
 

@@ -5,6 +5,7 @@ ghost use Rattle.validate.specs.Validate.{validate};
 ghost use Rattle.mesh.specs.PerBuffer.{entering, leaving};
 ghost use Rattle.mesh.specs.Operations.{measure, build};
 ghost use Rattle.mesh_answer.specs.Answers.{answerFrom};
+ghost use Rattle.mesh_bound.specs.Most.{bound};
 use mesh_answer::Answer;
 use validate::Judgement;
 
@@ -13,6 +14,13 @@ pub extern "C" fn object_mesh_measure(scene: &[u8]) -> Answer
     ensures { λ r. ⌜ answerFrom r ≡ measure (now (scene .entry)) ⌝ }
 {
     mesh_measure::measure(scene).numbers()
+}
+
+#[no_mangle]
+pub extern "C" fn object_mesh_bound(scene: &[u8]) -> Answer
+    ensures { λ r. ⌜ answerFrom r ≡ bound (now (scene .entry)) ⌝ }
+{
+    mesh_measure::bound(scene).numbers()
 }
 
 #[no_mangle]

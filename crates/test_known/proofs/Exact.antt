@@ -1,5 +1,5 @@
--- The most is what the objects come to where no triangle is thin, all holes are joined and all lids are wholly cut: computed for one of each kind. For a
--- sweep in which a section stands twice it is too much, and the bound with the objects without lids measured is exact. Assumes nothing.
+-- The bound is what Measure answers where no triangle is thin, all holes are joined and all lids are wholly cut: computed for one object of each kind. For
+-- a sweep in which a section stands twice it is more, and the sum of the objects without lids measured is exact. Assumes nothing.
 use Prim.Native.Nat.{ℕ}
 use mathlib.Core.Path.{_≡_, refl}
 use mathlib.Core.Bool.{Bool, true, not}
@@ -8,12 +8,13 @@ use lib.IntN.{pos}
 use Rattle.lists.specs.Loops.{join, every}
 use Rattle.float.specs.Number.{minArea}
 use Rattle.scene.specs.Scene.{scene}
-use Rattle.mesh.specs.Operations.{countsOf, output}
+use Rattle.mesh.specs.Operations.{countsOf, output, measureScene, measure}
 use Rattle.test_samples.specs.Samples.{Upright, upright, bytesOf, head, solidBytes, cornerBytes, outlineBytes, sceneBytes, objectsIn, sameCounts}
 use Rattle.test_samples.proofs.Computes.{all}
-use Rattle.mesh_bound.specs.declared.Counting.{Counting}
+use Rattle.mesh_bound.specs.declared.Group.the-variants.{Lids, Others}
 use Rattle.mesh_bound.specs.declared.Counting.the-variants.{Exact, Highest}
-use Rattle.mesh_bound.specs.Contract.Most.{solidMost, outlineMost, sweepMost, mostOf, exactOf, hasLid, inGroup, countedBy, boundIn, boundOfAll, mostCounts}
+use Rattle.mesh_bound.specs.Most.{solidMost, outlineMost, sweepMost, mostOf, together, ofAll, numbersOf, mostCounts, boundScene, bound}
+use Rattle.mesh_bound.specs.Contract.Groups.{exactOf, hasLid, inGroup, countedBy, boundIn, boundOfAll}
 
 -- a square from (a, a) to (b, b)
 square : ℕ → ℕ → List Upright
@@ -27,23 +28,30 @@ swept kind = head kind 7 ++ bytesOf 2 2 ++ join cornerBytes (upright 0 2 1 ∷ u
 twice : List ℕ
 twice = head 5 7 ++ bytesOf 2 3 ++ join cornerBytes (upright 0 2 1 ∷ upright 0 0 1 ∷ upright 4 2 1 ∷ upright 4 0 1 ∷ upright 4 2 1 ∷ upright 4 0 1 ∷ [])
 
-exact-for : Counting → List ℕ → Bool
-exact-for others bytes = let os = objectsIn (scene (sceneBytes (bytes ∷ []))) in sameCounts (mostCounts others Highest minArea os) (countsOf (output minArea os))
+exact-for : List ℕ → Bool
+exact-for bytes = let all = sceneBytes (bytes ∷ []) in sameCounts (bound all .counts) (measure all .counts)
+
+-- with the objects without lids measured
+nearer-for : List ℕ → Bool
+nearer-for bytes =
+    let all = sceneBytes (bytes ∷ []) in
+    let os = objectsIn (scene all) in
+    sameCounts (numbersOf (together (boundOfAll Others Exact minArea os) (boundOfAll Lids Highest minArea os)) 1) (measure all .counts)
 
 pub exact-tests : List Bool
 exact-tests =
-    not (exact-for Highest twice)
-    ∷ exact-for Exact twice
-    ∷ exact-for Highest (solidBytes 0 [])
-    ∷ exact-for Highest (solidBytes 1 (pos 4 ∷ pos 2 ∷ pos 1 ∷ []))
-    ∷ exact-for Highest (solidBytes 2 (pos 1 ∷ pos 2 ∷ []))
-    ∷ exact-for Highest (outlineBytes 3 (square 0 9) [])
-    ∷ exact-for Highest (outlineBytes 4 (square 0 9) (square 2 3 ∷ square 5 7 ∷ []))
-    ∷ exact-for Highest (outlineBytes 4 [] [])
-    ∷ exact-for Highest (swept 5)
-    ∷ exact-for Highest (swept 6)
+    not (exact-for twice)
+    ∷ nearer-for twice
+    ∷ exact-for (solidBytes 0 [])
+    ∷ exact-for (solidBytes 1 (pos 4 ∷ pos 2 ∷ pos 1 ∷ []))
+    ∷ exact-for (solidBytes 2 (pos 1 ∷ pos 2 ∷ []))
+    ∷ exact-for (outlineBytes 3 (square 0 9) [])
+    ∷ exact-for (outlineBytes 4 (square 0 9) (square 2 3 ∷ square 5 7 ∷ []))
+    ∷ exact-for (outlineBytes 4 [] [])
+    ∷ exact-for (swept 5)
+    ∷ exact-for (swept 6)
     ∷ []
 
 pub exact : every (λ b. b) exact-tests ≡ true
-unfolding all solidMost outlineMost sweepMost mostOf exactOf hasLid inGroup countedBy boundIn boundOfAll mostCounts square swept twice exact-for exact-tests
+unfolding all solidMost outlineMost sweepMost mostOf ofAll mostCounts boundScene bound exactOf hasLid inGroup countedBy boundIn boundOfAll square swept twice exact-for nearer-for exact-tests
 exact = refl

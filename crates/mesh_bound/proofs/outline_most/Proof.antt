@@ -1,6 +1,6 @@
 -- `mesh_bound::outline_most` meets its contract. Assumes nothing.
 use borrow.Author.Needs.{needs}
-use Rattle.mesh_bound.specs.Contract.Most.{outlineMost}
+use Rattle.mesh_bound.specs.Most.{outlineMost}
 use Rattle.mesh_bound.proofs.outline_most.Statement.{statement}
 use Rattle.mesh_bound.proofs.outline_most.Tie as tie
 

@@ -1,6 +1,6 @@
 -- `mesh_bound::solid_most` meets its contract. Assumes nothing.
 use borrow.Author.Needs.{needs}
-use Rattle.mesh_bound.specs.Contract.Most.{solidMost}
+use Rattle.mesh_bound.specs.Most.{solidMost}
 use Rattle.mesh_bound.proofs.solid_most.Statement.{statement}
 use Rattle.mesh_bound.proofs.solid_most.Tie as tie
 

@@ -1,6 +1,6 @@
 -- `mesh_bound::sweep_most` meets its contract. Assumes nothing.
 use borrow.Author.Needs.{needs}
-use Rattle.mesh_bound.specs.Contract.Most.{sweepMost}
+use Rattle.mesh_bound.specs.Most.{sweepMost}
 use Rattle.mesh_bound.proofs.sweep_most.Statement.{statement}
 use Rattle.mesh_bound.proofs.sweep_most.Tie as tie
 

@@ -2,7 +2,7 @@
 use mathlib.Core.Path.{refl}
 use borrow.Author.Needs.{needs}
 use borrow.Author.Tests.{not-true, not-false}
-use Rattle.mesh_bound.specs.Contract.Most.{countedBy, boundIn}
+use Rattle.mesh_bound.specs.Contract.Groups.{countedBy, boundIn}
 use Rattle.mesh_bound_scene.proofs.bound_at.Statement.{statement}
 use Rattle.mesh_bound_scene.proofs.bound_at.Tie as tie
 

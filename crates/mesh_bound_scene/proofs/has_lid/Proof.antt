@@ -6,7 +6,7 @@ use Prim.Native.Nat.{ℕ}
 use borrow.Author.Needs.{needs}
 use Rattle.scene.specs.declared.headers.Body.the-variants.{Sweep}
 use Rattle.scene.specs.Contract.Headers.{shapeOf}
-use Rattle.mesh_bound.specs.Contract.Most.{hasLid}
+use Rattle.mesh_bound.specs.Contract.Groups.{hasLid}
 use Rattle.mesh_bound_scene.proofs.has_lid.Statement.{statement}
 use Rattle.mesh_bound_scene.proofs.has_lid.Tie as tie
 

@@ -3,7 +3,7 @@ use mathlib.Core.Path.{_∙_}
 use Prim.Native.Nat.{_-_}
 use native.Mathlib.Omega.{arith}
 use borrow.Author.Needs.{needs}
-use Rattle.mesh_bound.specs.Contract.Most.{mostOf}
+use Rattle.mesh_bound.specs.Most.{mostOf}
 use Rattle.mesh_bound_scene.proofs.Headers.{most-outline, most-sweep}
 use Rattle.mesh_bound_scene.proofs.most_at.Statement.{statement}
 use Rattle.mesh_bound_scene.proofs.most_at.Tie as tie

@@ -9,7 +9,7 @@ use Rattle.mesh_build.proofs.plan_bounds.Tie as tie
 returns : tie.Need-returns
 returns c =
     let p = c .before .before .before .before .pre in
-    plan-complete _ _ (c .before .before .before .bound-counts .ensures) (few-fit (p .0) (p .1) (p .2)) (sym (c .enum-told .given .1) ∙ c .before .before .room .ensures)
+    plan-complete _ _ (c .before .before .before .bound-counts .ensures) (few-fit (p .0) (p .1)) (sym (c .enum-told .given .1) ∙ c .before .before .room .ensures)
 
 returns-2 : tie.Need-returns-2
 returns-2 c = plan-short _ (c .before .before .before .before .before .args .n) (c .before .before .before .before .bound-counts .ensures) _ (sym (c .before .f .given .1) ∙ c .before .before .before .room .ensures)

@@ -26,8 +26,8 @@ use Rattle.shape.specs.Shapes.{facesOf, logOf}
 use Rattle.mesh_progress.specs.declared.Progress.{Progress}
 use Rattle.mesh_progress.specs.declared.Starts.{Starts}
 use Rattle.mesh.specs.Mesh.{Span, keptBy, thinBy, accountOf, pieceOf, spanOf, meshFrom, accountsOf, logsOf}
-use Rattle.mesh.specs.PerBuffer.{each, at, Counts, Buffers, lent}
-use Rattle.mesh.specs.Contract.PerBuffer.{numbersFor, FitCounts}
+use Rattle.mesh.specs.PerBuffer.{each, at, Counts, numbersFor, Buffers, lent}
+use Rattle.mesh.specs.Contract.PerBuffer.{FitCounts}
 use Rattle.mesh.specs.Operations.{written}
 
 -- the buffers that objects are drawn into: all, in the order of a call

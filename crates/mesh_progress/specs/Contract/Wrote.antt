@@ -9,8 +9,7 @@ use Rattle.scene.specs.Scene.{scene, accepted}
 use Rattle.mesh_answer.specs.declared.Counted.{Counted}
 use Rattle.mesh_progress.specs.declared.Progress.{Progress}
 use Rattle.mesh_answer.specs.Answers.{countsFrom}
-use Rattle.mesh.specs.PerBuffer.{each, at, Counts, Buffers}
-use Rattle.mesh.specs.Contract.PerBuffer.{numbersFor}
+use Rattle.mesh.specs.PerBuffer.{each, at, Counts, numbersFor, Buffers}
 use Rattle.mesh.specs.Operations.{output, countsOf}
 
 -- the numbers that the counted objects take in each buffer
