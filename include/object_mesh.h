@@ -18,8 +18,8 @@
  *             With exceptions unmasked a call can fault, on ordinary scenes too: the compiled code also
  *             works on numbers that it does not use. Such a thread sets the mode around its calls:
  *                 unsigned mode = _mm_getcsr(); _mm_setcsr(0x1F80); ... _mm_setcsr(mode);
- * Stack       Build takes up to 22 KB, Measure as much, whatever the scene's size, and Validate under
- *             1 KB. This was measured (21,744 bytes, closed outlines), and is not proved.
+ * Stack       Build takes up to 22 KB, Measure as much, whatever the scene's size, Bound and Validate
+ *             under 1 KB. This was measured (21,744 bytes, closed outlines), and is not proved.
  * Threads     There is no state. Any number of threads may call at once, each with buffers of its own;
  *             they may share a scene.
  *
@@ -131,8 +131,8 @@ enum object_mesh_mark {
     OBJECT_MESH_MARK_NO_LID = 7,          /* 0, 0, 0: the outer ring has no area */
 };
 
-/* The answer of measure and of build: the refusal (enum object_mesh_refusal), the object named, and how
- * many numbers each buffer gets (all 0 on a refusal). */
+/* The answer of bound, measure and build: the refusal (enum object_mesh_refusal), the object named, and
+ * how many numbers each buffer gets, for bound at most (all 0 on a refusal). */
 typedef struct object_mesh_answer {
     uint32_t refusal;
     uint32_t object;
@@ -157,7 +157,16 @@ typedef struct object_mesh_judgement {
     uint64_t count;
 } object_mesh_judgement;
 
-/* How many numbers build writes to each buffer. Refusals 1 to 7. */
+/* Counts of numbers that suffice for build, told by the records' kinds and counts: never fewer than
+ * measure's, and the same refusals. It only reads the scene, and so is the way to size buffers for one
+ * build: buffers of these lengths are never too short (8 to 10), and build writes them in one pass.
+ * They may be longer than needed, where triangles are thin or a lid is not wholly cut; build answers
+ * what was written. Refusals 1 to 7. */
+object_mesh_answer object_mesh_bound(const uint8_t *scene, size_t scene_len);
+
+/* How many numbers build writes to each buffer, exactly. For this everything is drawn, which takes up to
+ * as long as build: it is for a caller who wants the counts themselves, or buffers without any room to
+ * spare. Refusals 1 to 7. */
 object_mesh_answer object_mesh_measure(const uint8_t *scene, size_t scene_len);
 
 /* Writes the mesh, spans, account and log from the start of each buffer; what lies behind is kept.

@@ -21,7 +21,30 @@ struct Judgement {
     count: u64,
 }
 
+/// What Build has written, in records.
+pub struct Written {
+    pub vertices: Vec<[f32; 3]>,
+    pub normals: Vec<[f32; 3]>,
+    pub indices: Vec<u32>,
+    pub spans: Vec<[u32; 5]>,
+    pub account: Vec<[u32; 4]>,
+    pub log: Vec<[u32; 4]>,
+}
+
+impl Written {
+    /// Gives back the memory behind what was written.
+    pub fn shorten(&mut self) {
+        self.vertices.shrink_to_fit();
+        self.normals.shrink_to_fit();
+        self.indices.shrink_to_fit();
+        self.spans.shrink_to_fit();
+        self.account.shrink_to_fit();
+        self.log.shrink_to_fit();
+    }
+}
+
 extern "C" {
+    fn object_mesh_bound(scene: *const u8, len: usize) -> Answer;
     fn object_mesh_measure(scene: *const u8, len: usize) -> Answer;
     fn object_mesh_build(
         scene: *const u8,
@@ -65,39 +88,57 @@ fn counted(answer: Answer) -> Result<Counts, Refusal> {
     })
 }
 
+pub fn bound(scene: &[u8]) -> Result<Counts, Refusal> {
+    counted(in_default_mode(|| unsafe {
+        object_mesh_bound(scene.as_ptr(), scene.len())
+    }))
+}
+
 pub fn measure(scene: &[u8]) -> Result<Counts, Refusal> {
     counted(in_default_mode(|| unsafe {
         object_mesh_measure(scene.as_ptr(), scene.len())
     }))
 }
 
-pub fn build(
-    scene: &[u8],
-    vertices: &mut [f32],
-    normals: &mut [f32],
-    indices: &mut [u32],
-    spans: &mut [u32],
-    account: &mut [u32],
-    log: &mut [u32],
-) -> Result<Counts, Refusal> {
-    counted(in_default_mode(|| unsafe {
+/// Build into memory with room for so many numbers, whatever stood there: it is not cleared before.
+pub fn build(scene: &[u8], room: Counts) -> Result<Written, Refusal> {
+    let mut w = Written {
+        vertices: Vec::with_capacity(room.vertices / 3),
+        normals: Vec::with_capacity(room.normals / 3),
+        indices: Vec::with_capacity(room.indices),
+        spans: Vec::with_capacity(room.spans / 5),
+        account: Vec::with_capacity(room.account / 4),
+        log: Vec::with_capacity(room.log / 4),
+    };
+    let counts = counted(in_default_mode(|| unsafe {
         object_mesh_build(
             scene.as_ptr(),
             scene.len(),
-            vertices.as_mut_ptr(),
-            vertices.len(),
-            normals.as_mut_ptr(),
-            normals.len(),
-            indices.as_mut_ptr(),
-            indices.len(),
-            spans.as_mut_ptr(),
-            spans.len(),
-            account.as_mut_ptr(),
-            account.len(),
-            log.as_mut_ptr(),
-            log.len(),
+            w.vertices.as_mut_ptr().cast(),
+            3 * w.vertices.capacity(),
+            w.normals.as_mut_ptr().cast(),
+            3 * w.normals.capacity(),
+            w.indices.as_mut_ptr(),
+            w.indices.capacity(),
+            w.spans.as_mut_ptr().cast(),
+            5 * w.spans.capacity(),
+            w.account.as_mut_ptr().cast(),
+            4 * w.account.capacity(),
+            w.log.as_mut_ptr().cast(),
+            4 * w.log.capacity(),
         )
-    }))
+    }))?;
+    // By the library's contract the first so many numbers of each buffer are now what the scene
+    // says, whatever stood there.
+    unsafe {
+        w.vertices.set_len(counts.vertices / 3);
+        w.normals.set_len(counts.normals / 3);
+        w.indices.set_len(counts.indices);
+        w.spans.set_len(counts.spans / 5);
+        w.account.set_len(counts.account / 4);
+        w.log.set_len(counts.log / 4);
+    }
+    Ok(w)
 }
 
 pub fn validate(vertices: &[f32], indices: &[u32]) -> Result<Verdict, Refusal> {

@@ -67,32 +67,29 @@ pub enum Verdict {
     DegenerateTriangle(u64),
 }
 
+/// Counts that suffice for Build, from the kinds and counts of the scene's records: never fewer
+/// than `measure` gives, at the price of reading alone.
+pub fn bound(scene: &[u8]) -> Result<Counts, Refusal> {
+    calls::bound(scene)
+}
+
+/// The counts that `build` comes to, exactly: everything is drawn for it.
 pub fn measure(scene: &[u8]) -> Result<Counts, Refusal> {
     calls::measure(scene)
 }
 
-/// The mesh, spans, account and log of a scene.
+/// The mesh, spans, account and log of a scene, in one pass: memory is taken by `bound`, and what
+/// was not needed of it is given back.
 pub fn build(scene: &[u8]) -> Result<Built, Refusal> {
-    let counts = measure(scene)?;
-    let [mut vertices, mut normals] = [counts.vertices, counts.normals].map(|n| vec![0.0; n]);
-    let [mut indices, mut spans, mut account, mut log] =
-        [counts.indices, counts.spans, counts.account, counts.log].map(|n| vec![0; n]);
-    calls::build(
-        scene,
-        &mut vertices,
-        &mut normals,
-        &mut indices,
-        &mut spans,
-        &mut account,
-        &mut log,
-    )?;
+    let mut written = calls::build(scene, bound(scene)?)?;
+    written.shorten();
     Ok(Built {
-        vertices: threes(&vertices),
-        normals: threes(&normals),
-        indices,
-        spans: spans.chunks_exact(5).map(span).collect(),
-        account: account.chunks_exact(4).map(account_of).collect(),
-        log: log.chunks_exact(4).map(|e| [e[0], e[1], e[2], e[3]]).collect(),
+        vertices: written.vertices,
+        normals: written.normals,
+        indices: written.indices,
+        spans: written.spans.into_iter().map(span).collect(),
+        account: written.account.into_iter().map(account_of).collect(),
+        log: written.log,
     })
 }
 
@@ -101,23 +98,19 @@ pub fn validate(vertices: &[f32], indices: &[u32]) -> Result<Verdict, Refusal> {
     calls::validate(vertices, indices)
 }
 
-fn threes(numbers: &[f32]) -> Vec<[f32; 3]> {
-    numbers.chunks_exact(3).map(|p| [p[0], p[1], p[2]]).collect()
-}
-
-fn span(s: &[u32]) -> Span {
+fn span([id, vertex, vertex_end, index, index_end]: [u32; 5]) -> Span {
     Span {
-        id: s[0],
-        vertices: s[1]..s[2],
-        indices: s[3]..s[4],
+        id,
+        vertices: vertex..vertex_end,
+        indices: index..index_end,
     }
 }
 
-fn account_of(a: &[u32]) -> Account {
+fn account_of([offered, kept, thin, entries]: [u32; 4]) -> Account {
     Account {
-        offered: a[0],
-        kept: a[1],
-        thin: a[2],
-        entries: a[3],
+        offered,
+        kept,
+        thin,
+        entries,
     }
 }

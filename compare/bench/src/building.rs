@@ -16,8 +16,8 @@ struct Line {
 }
 
 pub fn table(only: &str) {
-    println!("| scene | bytes | triangles | Rust ms | Measure ms | Build ms | Build, twice the room, ms | Measure, allocate, Build ms | Measure / Rust | Build / Rust | twice the room / Rust | all three / Rust |");
-    println!("|---|--:|--:|--:|--:|--:|--:|--:|--:|--:|--:|--:|");
+    println!("| scene | bytes | triangles | Rust ms | Measure ms | Build ms | Build, twice the room, ms | Bound ms | Bound, allocate, Build, shorten ms | Measure / Rust | Build / Rust | twice the room / Rust | Bound / Rust | all four / Rust |");
+    println!("|---|--:|--:|--:|--:|--:|--:|--:|--:|--:|--:|--:|--:|--:|");
     let chosen = families()
         .into_iter()
         .filter(|family| family.name.contains(only));
@@ -38,7 +38,7 @@ fn line(family: Family) -> Line {
     }
 }
 
-fn time(scene: &[u8]) -> [Duration; 5] {
+fn time(scene: &[u8]) -> [Duration; 6] {
     let mut sized = buffers(&calls::measure(scene), 1);
     let mut roomy = buffers(&calls::measure(scene), 2);
     shortest([
@@ -46,12 +46,13 @@ fn time(scene: &[u8]) -> [Duration; 5] {
         &mut || timed(|| calls::measure(scene)),
         &mut || timed(|| calls::build(scene, &mut sized)),
         &mut || timed(|| calls::build(scene, &mut roomy)),
-        &mut || timed(|| library(scene)),
+        &mut || timed(|| calls::bound(scene)),
+        &mut || timed(|| object_mesh::build(scene)),
     ])
 }
 
-fn text(line: &Line, times: [Duration; 5]) -> String {
-    let ratios = [1, 2, 3, 4].map(|k| ratio(times[k], times[0])).join(" | ");
+fn text(line: &Line, times: [Duration; 6]) -> String {
+    let ratios = [1, 2, 3, 4, 5].map(|k| ratio(times[k], times[0])).join(" | ");
     let times = times.map(ms).join(" | ");
     let (name, bytes, triangles) = (&line.name, line.scene.len(), line.triangles);
     format!("| {name} | {bytes} | {triangles} | {times} | {ratios} |")

@@ -26,6 +26,7 @@ pub struct Buffers {
 }
 
 extern "C" {
+    fn object_mesh_bound(scene: *const u8, len: usize) -> Answer;
     fn object_mesh_measure(scene: *const u8, len: usize) -> Answer;
     #[allow(clippy::too_many_arguments)]
     fn object_mesh_build(
@@ -50,6 +51,10 @@ extern "C" {
         indices: *const u32,
         indices_len: usize,
     ) -> Judgement;
+}
+
+pub fn bound(scene: &[u8]) -> Answer {
+    unsafe { object_mesh_bound(scene.as_ptr(), scene.len()) }
 }
 
 pub fn measure(scene: &[u8]) -> Answer {

@@ -1,5 +1,5 @@
-//! One scene: Measure; Build on exact, longer and too short buffers under several fillings, written
-//! and unwritten numbers alike; Validate; refusals.
+//! One scene: Measure; Bound; Build on exact, longer and too short buffers and on those of the bound,
+//! under several fillings, written and unwritten numbers alike; Validate; refusals.
 
 use reference::{build, read_scene, validate, Built};
 
@@ -16,6 +16,7 @@ pub fn scene(bytes: &[u8], turn: u64) -> Result<bool, String> {
                 counts: [0; 6],
             };
             same("measure", &calls::measure(bytes), &expected)?;
+            same("bound", &calls::bound(bytes), &expected)?;
             kept(bytes, &lent([7, 8, 9, 5, 4, 3], filling), &expected)?;
             return Ok(false);
         }
@@ -31,6 +32,7 @@ pub fn scene(bytes: &[u8], turn: u64) -> Result<bool, String> {
     same("measure", &calls::measure(bytes), &expected)?;
     written(bytes, &built, counts, filling, &expected)?;
     written(bytes, &built, counts.map(|n| n + 1 + n % 5), filling, &expected)?;
+    written(bytes, &built, bound(bytes, counts)?, filling, &expected)?;
     for k in 0..6 {
         if counts[k] > 0 {
             let mut short = counts;
@@ -44,6 +46,16 @@ pub fn scene(bytes: &[u8], turn: u64) -> Result<bool, String> {
     }
     verdict(&built)?;
     Ok(true)
+}
+
+/// The bound of an accepted scene: no count is under Measure's.
+fn bound(bytes: &[u8], counts: [u32; 6]) -> Result<[u32; 6], String> {
+    let answer = calls::bound(bytes);
+    let enough = counts.iter().zip(answer.counts).all(|(&n, most)| n <= most);
+    if (answer.refusal, answer.object, enough) == (0, 0, true) {
+        return Ok(answer.counts);
+    }
+    Err(format!("bound: {answer:?}, measured {counts:?}"))
 }
 
 fn same<T: PartialEq + std::fmt::Debug>(what: &str, got: &T, expected: &T) -> Result<(), String> {
