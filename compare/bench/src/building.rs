@@ -16,8 +16,8 @@ struct Line {
 }
 
 pub fn table(only: &str) {
-    println!("| scene | bytes | triangles | Rust ms | Measure ms | Build ms | Build, twice the room, ms | Bound ms | Bound, allocate, Build, shorten ms | Measure / Rust | Build / Rust | twice the room / Rust | Bound / Rust | all four / Rust |");
-    println!("|---|--:|--:|--:|--:|--:|--:|--:|--:|--:|--:|--:|--:|--:|");
+    println!("| scene | bytes | triangles | Rust ms | Measure / Rust | Build / Rust | Build, twice the room / Rust | Bound / Rust | from bytes to mesh / Rust |");
+    println!("|---|--:|--:|--:|--:|--:|--:|--:|--:|");
     let chosen = families()
         .into_iter()
         .filter(|family| family.name.contains(only));
@@ -53,9 +53,8 @@ fn time(scene: &[u8]) -> [Duration; 6] {
 
 fn text(line: &Line, times: [Duration; 6]) -> String {
     let ratios = [1, 2, 3, 4, 5].map(|k| ratio(times[k], times[0])).join(" | ");
-    let times = times.map(ms).join(" | ");
     let (name, bytes, triangles) = (&line.name, line.scene.len(), line.triangles);
-    format!("| {name} | {bytes} | {triangles} | {times} | {ratios} |")
+    format!("| {name} | {bytes} | {triangles} | {} | {ratios} |", ms(times[0]))
 }
 
 /// What the Rust's user does: the objects read, their mesh made; no account and no log.
