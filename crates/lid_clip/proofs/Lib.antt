@@ -1,1 +1,3 @@
 pub mod ClipRun
+pub mod HeldLaws
+pub mod HeldRun

@@ -1,2 +1,3 @@
 -- What only serves contracts: no exported contract rests on it.
+pub mod Held
 pub mod StepNotes

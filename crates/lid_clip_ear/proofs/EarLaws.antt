@@ -1,30 +1,31 @@
 -- Notes of tests: what they say of ears, that they hold after a search, and that they hold on where a corner is removed. Assumes nothing.
 use mathlib.Core.Path.{_≡_, refl, sym, ap, _∙_}
 use mathlib.Core.Bool.{Bool, true, false, cond, _&&_}
-use mathlib.Core.List.{List, [], _∷_, _++_, map}
+use mathlib.Core.List.{List, [], _∷_, map}
 use Prim.Native.Nat.{ℕ, zero, suc, _+_, _-_, _*_, _/_, _%_, _<_, _≤_}
 use native.Mathlib.Nat.{le-of-suc-le-suc, not-suc-le-zero}
 use native.Mathlib.Numerals.{add-one}
 use native.Mathlib.Omega.{arith}
-use lib.ListN.{length, getD, take, drop, set, replicate, length-set, length-map, getD-replicate, List·getD-map}
-use lib.Seq.{getD-take, getD-set-same, getD-set-other, set-getD, take-append-le, take-all, length-take-le, length-front}
+use lib.ListN.{length, getD, set, length-set, length-map, List·getD-map}
+use lib.Seq.{getD-set-same, getD-set-other, set-getD}
 use lib.Dec.{eqb, ltb, leb}
 use lib.Ieee.{lt}
 use borrow.Author.Tests.{eqb-true, eqb-false, ltb-true, ltb-false, leb-true, leb-false, not-true, not-false, eq-eqb, ne-eqb}
 use Rattle.lists.specs.declared.Found.{Found}
 use Rattle.lists.specs.declared.Found.the-variants.{At, Nowhere}
-use Rattle.lists.specs.Loops.{next, previous, first, every, removeAt, over}
+use Rattle.lists.specs.Loops.{next, previous, first, every, removeAt}
 use Rattle.lists.proofs.Places.{next-inside, next-last, previous-inside, previous-first}
 use Rattle.lists.proofs.Lists.{getD-any}
 use Rattle.lists.proofs.Loops.{first-start, first-found, first-next, first-end}
 use Rattle.float.specs.Number.{zerof}
 use Rattle.lid.specs.declared.Flat.{Flat}
+use Rattle.lid.specs.declared.Tested.{Tested}
 use Rattle.lid.specs.declared.Tested.the-variants.{Ear, No}
 use Rattle.lid.specs.Rings.{turnOf}
 use Rattle.lid.specs.Clipping.{before, here, after, clear, isEar}
 use Rattle.lid.proofs.Facts.{removeAt-size}
-use Rattle.lid_clip_ear.specs.Contract.Notes.{failedAt, moved, anew, without}
-use Rattle.lid_clip_ear.proofs.NoteLaws.{rem-low, rem-high, Moves, stays, goes-on, falls, moves, forgotten-front}
+use Rattle.lid_clip_ear.specs.Contract.Notes.{failedAt, moved, NoneFrom, anew, without}
+use Rattle.lid_clip_ear.proofs.NoteLaws.{rem-low, rem-high, Moves, stays, goes-on, falls, moves}
 use Rattle.lid_clip_ear.specs.Contract.Ears.{fails, Noted, Known, told, tested, looked, noteDown, searched}
 use Rattle.lid_clip_ear.proofs.FirstLaws.{Hit, first-hit, first-miss}
 
@@ -281,17 +282,16 @@ module _ (fs : List Flat) (l why : List ℕ) (i : ℕ) (hi : i < length l) (same
           let z : getD (anew i why) o 0 ≡ getD why o 0 = getD-set-other (set why (previous (length why) i) 0) (next (length why) i) o 0 0 a ∙ getD-set-other why (previous (length why) i) o 0 0 b in
           rw z (keep l i hi fs k o (place (rw same at b) (rw same at a)) (getD why o 0) (known .noted o ho))
 
-  known-cut : (new : List ℕ) → take (length why - 1) new ≡ without i why → Known fs (removeAt i l) new
+  pub known-cut : Known fs (removeAt i l) (without i why)
   unfolding without
-  known-cut new e = record { noted = λ k hk. go k hk (ltb k i) refl }
+  known-cut = record { noted = λ k hk. go k hk (ltb k i) refl }
     where
-      read : (k : ℕ) → k < length (removeAt i l) → getD new k 0 ≡ moved i (getD (removeAt i (anew i why)) k 0)
+      read : (k : ℕ) → k < length (removeAt i l) → getD (map (moved i) (removeAt i (anew i why))) k 0 ≡ moved i (getD (removeAt i (anew i why)) k 0)
       read k hk =
-          sym (getD-take (length why - 1) new k 0 (omega (arith, long l i hi))) ∙ ap (λ (v : List ℕ). getD v k 0) e
-          ∙ getD-any (map (moved i) (removeAt i (anew i why))) k 0 (moved i 0) (omega (arith, length-map (removeAt i (anew i why)) (moved i), removeAt-size (anew i why) i (omega (arith, anew-long)), anew-long, long l i hi))
+          getD-any (map (moved i) (removeAt i (anew i why))) k 0 (moved i 0) (omega (arith, length-map (removeAt i (anew i why)) (moved i), removeAt-size (anew i why) i (omega (arith, anew-long)), anew-long, long l i hi))
           ∙ List·getD-map (moved i) (removeAt i (anew i why)) k 0
 
-      go : (k : ℕ) → k < length (removeAt i l) → (b : Bool) → ltb k i ≡ b → Noted fs (removeAt i l) k (getD new k 0)
+      go : (k : ℕ) → k < length (removeAt i l) → (b : Bool) → ltb k i ≡ b → Noted fs (removeAt i l) k (getD (map (moved i) (removeAt i (anew i why))) k 0)
       go k hk true t =
           let g : k < i = ltb-true k i t in
           let z = read k hk ∙ ap (moved i) (rem-low (anew i why) i k (omega (arith, anew-long)) g) in
@@ -301,6 +301,10 @@ module _ (fs : List Flat) (l why : List ℕ) (i : ℕ) (hi : i < length l) (same
           let below : suc k < length l = omega (arith, long l i hi) in
           let z = read k hk ∙ ap (moved i) (rem-high (anew i why) i k (omega (arith, anew-long)) g) in
           rw z (still k (suc k) below (high-same l i hi k below g))
+
+-- no note says anything
+pub known-none : (fs : List Flat) (ring why : List ℕ) → NoneFrom 0 why → Known fs ring why
+known-none fs ring why none = record { noted = λ k hk. rw (none k (omega arith)) (noted-none fs ring k) }
 
 -- ---- the loop of `find_ear`
 
@@ -392,49 +396,20 @@ module _ (fs : List Flat) (ring why₀ why : List ℕ) where
         (search-found fs ring (length ring) i why _ h (looked-even fs ring i (getD why i 0) even ∙ e) (l .notes), l .known),
       )
 
--- ---- the loop of `clip`
+-- ---- a search that finds place p keeps the notes from there on
 
--- other notes that begin with these
-known-as : (fs : List Flat) (ring v w : List ℕ) → ((k : ℕ) → k < length ring → getD w k 0 ≡ getD v k 0) → Known fs ring v → Known fs ring w
-known-as fs ring v w same known = record { noted = λ k hk. rw (same k hk) (known .noted k hk) }
-
-pub record Noting (fs : List Flat) (why₀ ring why : List ℕ) (m : ℕ) : Type 0 where
-  pub why-long : length why ≡ length why₀
-  pub known : Known fs (take m ring) (take m why)
-
-pub noting-start : (fs : List Flat) (why₀ ring why : List ℕ) → length why ≡ length why₀ → length ring ≤ length why₀ → (n : ℕ) → why ≡ replicate n 0 → length ring ≤ n → Noting fs why₀ ring why (length ring)
-noting-start fs why₀ ring why same fits n blank room =
-    let many : length (take (length ring) ring) ≡ length ring = length-take-le (length ring) ring (omega arith) in
-    record {
-      why-long = same;
-      known = record {
-        noted = λ k hk.
-            let z : getD (take (length ring) why) k 0 ≡ 0 = getD-take (length ring) why k 0 (omega arith) ∙ ap (λ (v : List ℕ). getD v k 0) blank ∙ getD-replicate n k 0 0 (omega arith) in
-            rw z (noted-none fs (take (length ring) ring) k);
-      };
-    }
-
-module _ (fs : List Flat) (why₀ ring why : List ℕ) (m : ℕ) (hr : m ≤ length ring) (hw : m ≤ length why) where
-  pub both-long : length (take m why) ≡ length (take m ring)
-  both-long = length-take-le m why hw ∙ sym (length-take-le m ring hr)
-
-  -- the notes are changed in place to e
-  pub noting-mid : (e : List ℕ) → length e ≡ length (take m why) → length why ≡ length why₀ → Known fs (take m ring) e → Noting fs why₀ ring (e ++ drop m why) m
-  noting-mid e k l known =
-      let many : length (take m why) ≡ m = length-take-le m why hw in
-      let front : take m (e ++ drop m why) ≡ e = take-append-le m e (drop m why) (omega arith) ∙ take-all m e (omega arith) in
-      record { why-long = length-front why e m k ∙ l; known = rw front known }
-
-  -- a place is removed
-  pub noting-again : Noting fs why₀ ring why m → (r w : List ℕ) (p : ℕ) → length w ≡ length (take m why) → length r ≡ length (take m ring)
-      → take (length (take m ring) - 1) r ≡ removeAt p (take m ring) → w ≡ over (without p (take m why)) (anew p (take m why)) → p < length (take m ring)
-      → Noting fs why₀ (r ++ drop m ring) (w ++ drop m why) (m - 1)
-  noting-again noting r w p kw kr removed forgot hp =
-      let many : length (take m ring) ≡ m = length-take-le m ring hr in
-      let er : take (m - 1) (r ++ drop m ring) ≡ removeAt p (take m ring) = take-append-le (m - 1) r (drop m ring) (omega arith) ∙ ap (λ (n : ℕ). take (n - 1) r) (sym many) ∙ removed in
-      let ew : take (m - 1) (w ++ drop m why) ≡ take (m - 1) w = take-append-le (m - 1) w (drop m why) (omega (arith, both-long)) in
-      let still-known = known-cut fs (take m ring) (take m why) p hp both-long (noting .known) w (forgotten-front p (take m why) w (omega (arith, both-long)) forgot) in
-      record {
-        why-long = length-front why w m kw ∙ noting .why-long;
-        known = rw (er, ew) (known-as fs (removeAt p (take m ring)) w (take (m - 1) w) (λ k hk. getD-take (m - 1) w k 0 (omega (arith, removeAt-size (take m ring) p hp))) still-known);
-      }
+pub searched-kept : (fs : List Flat) (ring : List ℕ) (m i : ℕ) (why : List ℕ) → i + m ≤ length ring → length why ≡ length ring → Known fs ring why
+    → (p : ℕ) → first (isEar fs ring) m i ≡ At p → (k : ℕ) → p ≤ k → getD (searched fs ring m i why) k 0 ≡ getD why k 0
+unfolding searched first noteDown
+searched-kept fs ring zero i why fit long known p e k g = absurd (let z : _≡_ {A = ℕ} 0 1 = cc in omega arith)
+searched-kept fs ring (suc m) i why fit long known p e k g = go (looked fs ring i (getD why i 0)) refl (λ w n l r. searched-kept fs ring m (suc i) (set why i w) (omega arith) l n p r k g)
+  where
+    go : (t : Tested) → looked fs ring i (getD why i 0) ≡ t
+        → ((w : ℕ) → Known fs ring (set why i w) → length (set why i w) ≡ length ring → first (isEar fs ring) m (suc i) ≡ At p → getD (searched fs ring m (suc i) (set why i w)) k 0 ≡ getD (set why i w) k 0)
+        → getD (noteDown (λ w. searched fs ring m (suc i) w) why i t) k 0 ≡ getD why k 0
+    go Ear t later = refl
+    go (No w) t later =
+        let n = looked-no fs ring i (getD why i 0) (known .noted i (omega arith)) w t in
+        let r : first (isEar fs ring) m (suc i) ≡ At p = rw (n .1) at e in
+        let h = first-hit (isEar fs ring) m (suc i) p r in
+        later w (known-set fs ring why i w (omega arith) known (n .0)) (length-set why i w ∙ long) r ∙ getD-set-other why i k w 0 (λ z. omega (arith, h .from))

@@ -57,8 +57,8 @@ first-behind p (suc m) k = go (p (suc k)) (first-behind p m (suc k))
     go true later = ap At (sym (add-one k))
     go false later = later
 
--- tests that agree
-pub first-same : (p q : ℕ → Bool) → ((k : ℕ) → p k ≡ q k) → (m k : ℕ) → first p m k ≡ first q m k
+-- tests that agree where they are made
+pub first-same : (p q : ℕ → Bool) (m k : ℕ) → ((l : ℕ) → k ≤ l → l < k + m → p l ≡ q l) → first p m k ≡ first q m k
 unfolding first
-first-same p q e zero k = refl
-first-same p q e (suc m) k = rw (e k) (ap (cond (q k) (At k)) (first-same p q e m (suc k)))
+first-same p q zero k e = refl
+first-same p q (suc m) k e = rw (e k (omega arith) (omega arith)) (ap (cond (q k) (At k)) (first-same p q m (suc k) (λ l g h. e l (omega arith) (omega arith))))

@@ -1,21 +1,22 @@
 -- Notes where a corner is removed. Assumes nothing.
-use mathlib.Core.Path.{_≡_, refl, sym, ap, _∙_}
+use mathlib.Core.Path.{_≡_, refl, sym, ap, ap₂, _∙_}
 use mathlib.Core.Bool.{Bool, true, false, cond}
-use mathlib.Core.List.{List, [], _∷_, _++_, map, append-assoc, append-nil}
+use mathlib.Core.List.{List, [], _∷_, _++_, map}
 use Prim.Native.Nat.{ℕ, zero, suc, _+_, _-_, _*_, _<_, _≤_, _^_}
-use native.Mathlib.Nat.{le-of-suc-le-suc, le-of-lt, not-suc-le-zero}
+use native.Mathlib.Nat.{le-of-suc-le-suc, not-suc-le-zero}
 use native.Mathlib.Numerals.{add-one}
 use native.Mathlib.Omega.{arith}
-use lib.ListN.{length, getD, take, drop, set, replicate, length-append, length-drop, length-set, length-map, length-replicate, getD-replicate, drop-of-length-le, List·getD-map}
-use lib.Seq.{getD-set-same, getD-set-other, ext-getD, take-at, take-suc-set, length-take-le, length-front, drop-cons, drop-set-lt, drop-append-add, drop-drop, drop-at}
+use lib.ListN.{length, getD, take, drop, set, replicate, length-set, length-map, length-replicate, getD-replicate, take-append-drop, List·getD-map}
+use lib.Seq.{getD-set-same, getD-set-other, getD-drop, ext-getD, length-take-le, drop-at}
 use lib.Dec.{eqb, ltb}
+use borrow.Rule.Slice.PartMut.{midOf, putMid, same-len-mid}
 use borrow.Author.Tests.{eqb-true, eqb-false, ltb-true, ltb-false, lt-ltb, le-ltb}
-use Rattle.lists.specs.Loops.{next, previous, removeAt, over}
+use Rattle.lists.specs.Loops.{next, previous, removeAt}
 use Rattle.lists.proofs.Lists.{getD-any, map-append}
 use Rattle.lid.proofs.Areas.Ring.{removeAt-is}
 use Rattle.lid.proofs.Facts.{removeAt-size}
-use Rattle.lists.proofs.Buffers.{over-is, over-front, over-behind, behind-later}
-use Rattle.lid_clip_ear.specs.Contract.Notes.{down, movedBy, moved, capped, movedBehind, anew, without}
+use Rattle.lid_place.proofs.RemoveLaws.{first-kept}
+use Rattle.lid_clip_ear.specs.Contract.Notes.{down, movedBy, moved, capped, movedBefore, NoneFrom, anew, without}
 
 -- ---- places after a removal
 
@@ -99,84 +100,129 @@ fits-anew zero (q ∷ why) h (suc k) = h (suc k)
 fits-anew (suc i) (q ∷ why) h zero = h 0
 fits-anew (suc i) (q ∷ why) h (suc k) = fits-anew i why (λ k. h (suc k)) k
 
--- ---- the loop of `shift_behind`: the notes before place k, and those behind it moved
+-- ---- the loop of `shift_before`: the notes behind place k, and those before it moved
 
-module _ (f : ℕ → ℕ) (why : List ℕ) (k : ℕ) where
-  pub behind-step : (v : ℕ) → k + 1 < length why → v ≡ f (getD why (k + 1) 0) → take (k + 1) (set why k v) ++ map f (drop (k + 1 + 1) (set why k v)) ≡ take k why ++ map f (drop (k + 1) why)
-  behind-step v h e =
-      let some : k < length why = omega arith in
-      let front : take (k + 1) (set why k v) ≡ take k why ++ (v ∷ []) = ap (λ (m : ℕ). take m (set why k v)) (add-one k) ∙ take-suc-set why k v some in
-      let rest : drop (k + 1 + 1) (set why k v) ≡ drop (k + 1 + 1) why = drop-set-lt (k + 1 + 1) why k v (omega arith) in
-      let next-note : drop (k + 1) why ≡ getD why (k + 1) 0 ∷ drop (k + 1 + 1) why = drop-cons why (k + 1) 0 h ∙ ap (λ (m : ℕ). getD why (k + 1) 0 ∷ drop m why) (sym (add-one (k + 1))) in
-      rw (front, rest, next-note, e) (append-assoc (take k why) (f (getD why (k + 1) 0) ∷ []) (map f (drop (k + 1 + 1) why)))
+step-up : (f : ℕ → ℕ) (l : List ℕ) (j v : ℕ) → suc j < length l → v ≡ f (getD l j 0) → map f (take j (set l (suc j) v)) ++ drop (suc j) (set l (suc j) v) ≡ map f (take (suc j) l) ++ drop (suc (suc j)) l
+step-up f [] j v h e = absurd (not-suc-le-zero h)
+step-up f (x ∷ []) j v h e = absurd (not-suc-le-zero (le-of-suc-le-suc h))
+step-up f (x ∷ (y ∷ ys)) zero v h e = rw e
+step-up f (x ∷ (y ∷ ys)) (suc j) v h e = ap (λ (r : List ℕ). f x ∷ r) (step-up f (y ∷ ys) j v (le-of-suc-le-suc h) e)
 
-  pub behind-size : k < length why → length (take k why ++ map f (drop (k + 1) why)) ≡ length why - 1
-  behind-size h = length-append (take k why) (map f (drop (k + 1) why)) ∙ omega (arith, length-take-le k why (le-of-lt h), length-map (drop (k + 1) why) f, length-drop (k + 1) why)
+pub record Raising (low : ℕ) (old : List ℕ) (i : ℕ) (new : List ℕ) (k : ℕ) : Type 0 where
+  pub long : length new ≡ length old
+  pub near : k ≤ i
+  pub rest : movedBefore low k new ≡ movedBefore low i old
 
-  pub behind-end : k + 1 ≡ length why → take k why ++ map f (drop (k + 1) why) ≡ take k why
-  behind-end h = let none : drop (k + 1) why ≡ [] = drop-of-length-le why {i = k + 1} (omega arith) in rw none (append-nil (take k why))
+module _ (low : ℕ) (old : List ℕ) (i : ℕ) where
+  pub raising-start : Raising low old i old i
+  raising-start = record { long = refl; near = omega arith; rest = refl }
+
+  pub raising-next : (new : List ℕ) (k v : ℕ) → 0 < k → i < length old → v ≡ movedBy low (getD new (k - 1) 0) → Raising low old i new k → Raising low old i (set new k v) (k - 1)
+  raising-next new zero v h b e r = absurd (not-suc-le-zero h)
+  raising-next new (suc k) v h b e r =
+      let down-one : suc k - 1 ≡ k = omega arith in
+      let e′ : v ≡ movedBy low (getD new k 0) = rw down-one at e in
+      let up : map (movedBy low) (take k (set new (suc k) v)) ++ drop (k + 1) (set new (suc k) v) ≡ map (movedBy low) (take (suc k) new) ++ drop (suc k + 1) new =
+      rw (add-one k, add-one (suc k)) (step-up (movedBy low) new k v (omega (arith, r .near, r .long)) e′) in
+      rw down-one (record {
+        long = length-set new (suc k) v ∙ r .long;
+        near = omega (arith, r .near);
+        rest = rw (first-kept new k v, up) (r .rest);
+      })
+
+  pub raising-end : (new : List ℕ) (k : ℕ) → k ≤ 0 → Raising low old i new k → new ≡ movedBefore low i old
+  raising-end new zero h r = sym (take-append-drop 1 new) ∙ r .rest
+  raising-end new (suc k) h r = absurd (not-suc-le-zero h)
 
 -- ---- `forget`: place i is taken out of mid, the notes with those of its neighbours anew
 
-moved-out : (i : ℕ) (mid e new : List ℕ) (low : ℕ) → i < length mid → ((k : ℕ) → getD mid k 0 < 2 ^ 32) → low ≡ capped i → e ≡ map (movedBy low) (take i mid)
-    → take (length (e ++ drop i mid) - 1) new ≡ take i (e ++ drop i mid) ++ map (movedBy low) (drop (i + 1) (e ++ drop i mid)) → take (length mid - 1) new ≡ map (moved i) (removeAt i mid)
-moved-out i mid e new low hi fits cap shifted done =
+none-anew : (l : List ℕ) (i k : ℕ) → getD l k 0 ≡ 0 → getD (set l i 0) k 0 ≡ 0
+none-anew [] i k e = e
+none-anew (q ∷ l) zero zero e = refl
+none-anew (q ∷ l) zero (suc k) e = e
+none-anew (q ∷ l) (suc i) zero e = e
+none-anew (q ∷ l) (suc i) (suc k) e = none-anew l i k e
+
+moved-nothing : (low : ℕ) → movedBy low 0 ≡ 0
+unfolding movedBy
+moved-nothing low = let z : down low 0 ≡ 0 = down-low low 0 (omega arith) in rw (z, z)
+
+map-none : (low : ℕ) (l : List ℕ) → ((k : ℕ) → getD l k 0 ≡ 0) → map (movedBy low) l ≡ l
+map-none low [] h = refl
+map-none low (q ∷ l) h = ap₂ (λ (a : ℕ) (r : List ℕ). a ∷ r) (ap (movedBy low) (h 0) ∙ moved-nothing low ∙ sym (h 0)) (map-none low l (λ k. h (suc k)))
+
+-- the notes behind place i are moved, those from `known` on by being left alone
+tail-moved : (low i known : ℕ) (mid e : List ℕ) → i < known → NoneFrom known mid → e ≡ map (movedBy low) (take (known - (i + 1)) (drop (i + 1) mid))
+    → e ++ drop (known - (i + 1)) (drop (i + 1) mid) ≡ map (movedBy low) (drop (i + 1) mid)
+tail-moved low i known mid e h none shifted =
     let f = movedBy low in
-    let many : length e ≡ i = ap length shifted ∙ length-map (take i mid) f ∙ length-take-le i mid (omega arith) in
-    let whole : length (e ++ drop i mid) ≡ length mid = length-front mid e i (many ∙ sym (length-take-le i mid (omega arith))) in
-    let front : take i (e ++ drop i mid) ≡ map f (take i mid) = take-at e (drop i mid) i many ∙ shifted in
-    let rest : drop (i + 1) (e ++ drop i mid) ≡ drop (suc i) mid =
-    ap (λ (m : ℕ). drop (m + 1) (e ++ drop i mid)) (sym many) ∙ drop-append-add e (drop i mid) 1 ∙ drop-drop 1 i mid ∙ ap (λ (m : ℕ). drop m mid) (add-one i) in
-    let joined : map f (take i mid) ++ map f (drop (suc i) mid) ≡ map f (removeAt i mid) = sym (ap (map f) (removeAt-is i mid) ∙ map-append f (take i mid) (drop (suc i) mid)) in
-    ap (λ (m : ℕ). take (m - 1) new) (sym whole) ∙ done ∙ rw (front, rest) joined ∙ ap (λ (l : ℕ). map (movedBy l) (removeAt i mid)) cap
-    ∙ all-capped i (removeAt i mid) (fits-remove i mid fits)
+    let k = known - (i + 1) in
+    let tail = drop (i + 1) mid in
+    let read : (p : ℕ) → getD (drop k tail) p 0 ≡ 0 = λ p. getD-drop k tail p 0 ∙ getD-drop (i + 1) mid (k + p) 0 ∙ none (i + 1 + (k + p)) (omega arith) in
+    ap₂ (λ (a b : List ℕ). a ++ b) shifted (sym (map-none low (drop k tail) read)) ∙ sym (map-append f (take k tail) (drop k tail)) ∙ ap (map f) (take-append-drop k tail)
 
--- the lengths on the way
-module _ (why : List ℕ) (i h j : ℕ) where
-  pub anew-long : length (set (set why h 0) j 0) ≡ length why
-  anew-long = length-set (set why h 0) j 0 ∙ length-set why h 0
+take-again : (l r : List ℕ) (i : ℕ) → i < length l → take i (take (suc i) l ++ r) ≡ take i l
+take-again [] r i h = absurd (not-suc-le-zero h)
+take-again (x ∷ l) r zero h = refl
+take-again (x ∷ l) r (suc i) h = ap (λ (s : List ℕ). x ∷ s) (take-again l r i (le-of-suc-le-suc h))
 
-  pub in-anew : i < length why → i ≤ length (set (set why h 0) j 0)
-  in-anew g = omega (arith, anew-long)
+first-again : (l r : List ℕ) (i : ℕ) → i < length l → take 1 (take (suc i) l ++ r) ≡ take 1 l
+first-again [] r i h = absurd (not-suc-le-zero h)
+first-again (x ∷ l) r i h = refl
 
-  pub shifted-long : (e : List ℕ) → length e ≡ length (take i (set (set why h 0) j 0)) → length (e ++ drop i (set (set why h 0) j 0)) ≡ length why
-  shifted-long e k = length-front (set (set why h 0) j 0) e i k ∙ anew-long
+-- those before it are moved then
+both-moved : (low i : ℕ) (mid : List ℕ) → i < length mid → movedBefore low i (take (i + 1) mid ++ map (movedBy low) (drop (i + 1) mid)) ≡ take 1 mid ++ map (movedBy low) (removeAt i mid)
+both-moved low i mid h =
+    let f = movedBy low in
+    let behind = map f (drop (suc i) mid) in
+    let all : drop (suc i) (take (suc i) mid ++ behind) ≡ behind = drop-at (take (suc i) mid) behind (suc i) (length-take-le (suc i) mid h) in
+    let joined : map f (take i mid) ++ behind ≡ map f (removeAt i mid) = sym (ap (map f) (removeAt-is i mid) ∙ map-append f (take i mid) (drop (suc i) mid)) in
+    rw (add-one i, first-again mid behind i h, take-again mid behind i h, all, joined)
 
-forgot : (why e new : List ℕ) (i h j low : ℕ) → i < length why → ((k : ℕ) → getD why k 0 < 2 ^ 32) → h ≡ previous (length why) i → j ≡ next (length why) i → low ≡ capped i
-    → e ≡ map (movedBy low) (take i (set (set why h 0) j 0))
-    → take (length (e ++ drop i (set (set why h 0) j 0)) - 1) new ≡ take i (e ++ drop i (set (set why h 0) j 0)) ++ map (movedBy low) (drop (i + 1) (e ++ drop i (set (set why h 0) j 0)))
-    → take (length why - 1) new ≡ without i why
+pub anew-long : (why : List ℕ) (h j : ℕ) → length (set (set why h 0) j 0) ≡ length why
+anew-long why h j = length-set (set why h 0) j 0 ∙ length-set why h 0
+
+pub shifted-long : (why : List ℕ) (i h j known : ℕ) (e : List ℕ) → length e ≡ length (midOf (i + 1) (known - (i + 1)) (set (set why h 0) j 0))
+    → length (putMid (i + 1) (known - (i + 1)) (set (set why h 0) j 0) e) ≡ length why
+shifted-long why i h j known e k = same-len-mid (i + 1) (known - (i + 1)) (set (set why h 0) j 0) e k ∙ anew-long why h j
+
+pub forgot : (why e new : List ℕ) (i h j low known : ℕ) → i < known → known ≤ length why → NoneFrom known why → ((k : ℕ) → getD why k 0 < 2 ^ 32)
+    → h ≡ previous (length why) i → j ≡ next (length why) i → low ≡ capped i → e ≡ map (movedBy low) (take (known - (i + 1)) (drop (i + 1) (set (set why h 0) j 0)))
+    → new ≡ movedBefore low i (take (i + 1) (set (set why h 0) j 0) ++ (e ++ drop (known - (i + 1)) (drop (i + 1) (set (set why h 0) j 0))))
+    → new ≡ take 1 (anew i why) ++ without i why
 unfolding without
-forgot why e new i h j low hi fits eh ej cap shifted done =
+forgot why e new i h j low known near fits none small eh ej cap shifted done =
     let mid = set (set why h 0) j 0 in
-    let same : length mid ≡ length why = anew-long why i h j in
-    ap (λ (m : ℕ). take (m - 1) new) (sym same)
-    ∙ moved-out i mid e new low (omega arith) (fits-anew j (set why h 0) (fits-anew h why fits)) cap shifted done
+    let behind = tail-moved low i known mid e near (λ k g. none-anew (set why h 0) j k (none-anew why h k (none k g))) shifted in
+    let moved-all : map (movedBy low) (removeAt i mid) ≡ map (moved i) (removeAt i mid) =
+    ap (λ (l : ℕ). map (movedBy l) (removeAt i mid)) cap ∙ all-capped i (removeAt i mid) (fits-remove i mid (fits-anew j (set why h 0) (fits-anew h why small))) in
+    done ∙ ap (λ (r : List ℕ). movedBefore low i (take (i + 1) mid ++ r)) behind
+    ∙ both-moved low i mid (omega (arith, anew-long why h j))
+    ∙ ap (λ (r : List ℕ). take 1 mid ++ r) moved-all
     ∙ rw (eh, ej)
 
-pub without-size : (i : ℕ) (why : List ℕ) → i < length why → length why - 1 ≡ length (without i why)
+-- the notes that are left are the last ones
+pub forgotten-behind : (i : ℕ) (why new : List ℕ) → i < length why → new ≡ take 1 (anew i why) ++ without i why → drop 1 new ≡ without i why
+forgotten-behind i why new h e = go (anew i why) (omega (arith, anew-long why (previous (length why) i) (next (length why) i))) e
+  where
+    go : (l : List ℕ) → 0 < length l → new ≡ take 1 l ++ without i why → drop 1 new ≡ without i why
+    go [] h e = absurd (not-suc-le-zero h)
+    go (x ∷ l) h e = ap (drop 1) e
+
+pub without-size : (i : ℕ) (why : List ℕ) → i < length why → suc (length (without i why)) ≡ length why
 unfolding without
 without-size i why h =
-    let long : length (anew i why) ≡ length why = anew-long why i (previous (length why) i) (next (length why) i) in
+    let long : length (anew i why) ≡ length why = anew-long why (previous (length why) i) (next (length why) i) in
     omega (arith, length-map (removeAt i (anew i why)) (moved i), removeAt-size (anew i why) i (omega arith), long)
 
-pub forgot-all : (why e new : List ℕ) (i h j low : ℕ) → i < length why → ((k : ℕ) → getD why k 0 < 2 ^ 32) → h ≡ previous (length why) i → j ≡ next (length why) i → low ≡ capped i
-    → e ≡ map (movedBy low) (take i (set (set why h 0) j 0)) → new ≡ over (movedBehind low i (e ++ drop i (set (set why h 0) j 0))) (e ++ drop i (set (set why h 0) j 0))
-    → new ≡ over (without i why) (anew i why)
-forgot-all why e new i h j low hi fits eh ej cap shifted done =
-    let mid = set (set why h 0) j 0 in
-    let mid-long : length mid ≡ length why = anew-long why i h j in
-    let many : length e ≡ i = ap length shifted ∙ length-map (take i mid) (movedBy low) ∙ length-take-le i mid (omega arith) in
-    let long : length (e ++ drop i mid) ≡ length why = shifted-long why i h j e (many ∙ sym (length-take-le i mid (omega arith))) in
-    let size : length (e ++ drop i mid) - 1 ≡ length (movedBehind low i (e ++ drop i mid)) = sym (behind-size (movedBy low) (e ++ drop i mid) i (omega arith)) in
-    let front = over-front _ new (e ++ drop i mid) _ size done in
-    let behind : drop (length why - 1) new ≡ drop (length why - 1) (e ++ drop i mid) = rw long at (over-behind _ new (e ++ drop i mid) _ size done) in
-    over-is (length why - 1) new (anew i why) (without i why) (without-size i why hi) (forgot why e new i h j low hi fits eh ej cap shifted front)
-    (behind ∙ behind-later i (length why - 1) (e ++ drop i mid) mid (omega arith) (drop-at e (drop i mid) i many) ∙ rw (eh, ej))
-
--- the notes that are left are the first ones
-pub forgotten-front : (i : ℕ) (why new : List ℕ) → i < length why → new ≡ over (without i why) (anew i why) → take (length why - 1) new ≡ without i why
-forgotten-front i why new h e = over-front (length why - 1) new (anew i why) (without i why) (without-size i why h) e
+-- and there is none from a place before on
+pub none-without : (i known : ℕ) (why : List ℕ) → i < known → i < length why → NoneFrom known why → NoneFrom (known - 1) (without i why)
+unfolding without
+none-without i known why near h none k g =
+    let mid = anew i why in
+    let zero-behind : getD mid (suc k) 0 ≡ 0 = none-anew (set why (previous (length why) i) 0) (next (length why) i) (suc k) (none-anew why (previous (length why) i) (suc k) (none (suc k) (omega arith))) in
+    let out : getD (removeAt i mid) k 0 ≡ 0 = rem-high mid i k (omega (arith, anew-long why (previous (length why) i) (next (length why) i))) (omega arith) ∙ zero-behind in
+    ap (getD (map (moved i) (removeAt i mid)) k) (sym (moved-nothing (2 * i + 2))) ∙ List·getD-map (moved i) (removeAt i mid) k 0 ∙ ap (moved i) out ∙ moved-nothing (2 * i + 2)
 
 -- ---- the loops of `shift_all` and `forget_all`: places below k are done
 

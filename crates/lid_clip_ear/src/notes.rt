@@ -3,10 +3,9 @@
 // test j pass, and 2 j + 1 that test j fails besides.
 ghost use mathlib.Core.Path.{_≡_};
 ghost use mathlib.Core.List.{map};
-ghost use Prim.Native.Nat.{_+_, _<_};
+ghost use Prim.Native.Nat.{_+_, _<_, _≤_};
 ghost use lib.ListN.{length, replicate};
-ghost use Rattle.lists.specs.Loops.{over};
-ghost use Rattle.lid_clip_ear.specs.Contract.Notes.{failedAt, capped, down, movedBy, movedBehind, PlaceForgotten};
+ghost use Rattle.lid_clip_ear.specs.Contract.Notes.{failedAt, capped, down, movedBy, movedBefore, NoneFrom, PlaceForgotten};
 use lid::RingPlace;
 use lid_place::place_after;
 use lid_place::place_before;
@@ -27,7 +26,7 @@ pub fn forget_all(why: &mut [u32])
 
 // The note of a place that passes the tests before that of the corner at place `at`, and fails this one. Where that is too far for a note, it says of
 // as many tests as it can that they pass.
-pub fn failed(at: RingPlace) -> u32
+pub(crate) fn failed(at: RingPlace) -> u32
     ensures { λ r. ⌜ r ≡ failedAt (at .0 + 1) ⌝ }
 {
     let k = at.0;
@@ -70,23 +69,24 @@ fn shift_all(why: &mut [u32], low: u32)
     }
 }
 
-// The same for the notes behind a place, which take the places before theirs; the last place keeps its note.
-fn shift_behind(why: &mut [u32], at: RingPlace, low: u32)
+// The same for the notes before a place, which take the places behind theirs; the first place keeps its note.
+fn shift_before(why: &mut [u32], at: RingPlace, low: u32)
     requires { ⌜ at .0 < length (now why) ⌝ }
-    ensures { λ _. ⌜ now (why .exit) ≡ over (movedBehind low (at .0) (now (why .entry))) (now (why .entry)) ⌝ }
+    ensures { λ _. ⌜ now (why .exit) ≡ movedBefore low (at .0) (now (why .entry)) ⌝ }
 {
     let mut k = at.0;
-    let last = why.len() - 1;
-    while k < last {
-        let q = why[k + 1];
+    while 0 < k {
+        let q = why[k - 1];
         why[k] = lowered(lowered(q, low), low);
-        k += 1;
+        k -= 1;
     }
 }
 
-// The notes where the corner at a place is removed: those of its neighbours, whose triangles change, start anew, and the others move.
-pub fn forget(why: &mut [u32], at: RingPlace)
-    requires { ⌜ at .0 < length (now why) ⌝ }
+// The notes where the corner at a place is removed: those of its neighbours, whose triangles change, start anew, and the others move. There is none
+// from place `known` on, where nothing need be done.
+pub fn forget(why: &mut [u32], at: RingPlace, known: usize)
+    requires { ⌜ (at .0 < known) × (known ≤ length (now why)) ⌝ }
+    requires { ⌜ NoneFrom known (now why) ⌝ }
     ensures { λ _. ⌜ PlaceForgotten (at .0) why ⌝ }
 {
     let n = why.len();
@@ -96,6 +96,7 @@ pub fn forget(why: &mut [u32], at: RingPlace)
     let low = unmoved(at);
     why[h] = 0;
     why[j] = 0;
-    shift_all(&mut why[..i], low);
-    shift_behind(why, at, low);
+    let behind = i + 1;
+    shift_all(&mut why[behind..known], low);
+    shift_before(why, at, low);
 }

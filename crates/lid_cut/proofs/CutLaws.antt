@@ -1,16 +1,18 @@
 -- A ring cut, with its log and its triangles. Assumes nothing.
-use mathlib.Core.Path.{_≡_, refl, sym, _∙_}
+use mathlib.Core.Path.{_≡_, refl, sym, ap, _∙_}
 use mathlib.Core.Bool.{Bool, true, false, cond}
 use mathlib.Core.List.{List, [], _∷_, map}
-use Prim.Native.Nat.{ℕ, suc, _+_, _<_, _≤_, _^_}
+use Prim.Native.Nat.{ℕ, suc, _+_, _-_, _<_, _≤_, _^_}
 use native.Mathlib.Nat.{le-refl, zero-add}
 use native.Mathlib.Omega.{arith}
-use lib.ListN.{length, take, length-append, length-map}
-use lib.Seq.{length-take-le}
+use lib.ListN.{length, drop, length-append, length-drop, length-map}
+use lib.Seq.{take-all}
 use lib.Dec.{eqb}
+use borrow.Rule.Slice.PartMut.{midOf}
 use Rattle.face_triangle.specs.Triangles.{triangle}
 use Rattle.lid.specs.declared.Flat.{Flat}
 use Rattle.lid.specs.declared.Clipped.{Clipped}
+use Rattle.lid.specs.declared.LidCounts.{LidCounts}
 use Rattle.lid.specs.Log.{Entry, entry}
 use Rattle.lid.specs.Clipping.{clip}
 use Rattle.lid.specs.Lid.{earsOf, lastTriangle}
@@ -44,32 +46,32 @@ module _ (fs : List Flat) (ring ring′ log log₁ : List ℕ) (n : ℕ) (triang
   ears-low : c .triangles ≤ length ring
   ears-low = omega (arith, clipped .offered, ears-few (clip fs (length ring) ring .log), clip-size fs (length ring) ring)
 
-  -- what the calls after it ask for
-  pub left-in : length ring′ ≡ length ring → c .left ≤ length ring′
-  left-in kept = omega (arith, left-few, kept)
+  -- the corners left are the last ones of the buffer
+  module _ (kept : length ring′ ≡ length ring) where
+    pub left-in : c .left ≤ length ring′
+    left-in = omega (arith, left-few, kept)
 
-  pub left-room : length ring′ ≡ length ring → n + length ring + 1 < 2 ^ 32 → c .entries + length (take (c .left) ring′) < 2 ^ 32
-  left-room kept room = omega (arith, entries-few, length-take-le (c .left) ring′ (left-in kept), room)
+    rest-is : midOf (length ring′ - c .left) (length ring′ - (length ring′ - c .left)) ring′ ≡ clip fs (length ring) ring .ring
+    rest-is = take-all (length ring′ - (length ring′ - c .left)) (drop (length ring′ - c .left) ring′) (omega (arith, length-drop (length ring′ - c .left) ring′)) ∙ clipped .remains
 
-  pub ears-room : n + length ring + 1 < 2 ^ 32 → c .triangles + 1 < 2 ^ 32
-  ears-room room = omega (arith, ears-low, room)
+    pub rest-room : n + length ring + 1 < 2 ^ 32
+        → (c .entries + length (midOf (length ring′ - c .left) (length ring′ - (length ring′ - c .left)) ring′) < 2 ^ 32) × (c .triangles + 1 < 2 ^ 32)
+    rest-room room = (omega (arith, entries-few, ap length rest-is, clipped .size, room), omega (arith, ears-low, room))
 
-  pub sum-room : n + length ring + 1 < 2 ^ 32 → (c .left < 2 ^ 32) × (c .entries + c .left < 2 ^ 32)
-  sum-room room = (omega (arith, left-few, room), omega (arith, entries-few, room))
-
-  pub cut-draws : (log₂ triangles₂ : List ℕ) (count : ℕ) → log₂ ≡ logWith log₁ (c .entries) (map (λ a. entry 3 a 0 0) (take (c .left) ring′))
-      → triangles₂ ≡ trianglesWith triangles₁ (c .triangles) (lastTriangle fs (take (c .left) ring′)) → count ≡ c .triangles + length (lastTriangle fs (take (c .left) ring′))
-      → WritesLid (ringEntries (clip fs (length ring) ring)) (ringTriangles fs (clip fs (length ring) ring)) log log₂ n triangles triangles₂
-      (record { entries = c .entries + c .left; triangles = count })
-  cut-draws log₂ triangles₂ count w d o =
-      let k = clip fs (length ring) ring in
-      let left : List Entry = map (λ a. entry 3 a 0 0) (k .ring) in
-      let w′ : log₂ ≡ logWith log₁ (c .entries) left = rw (clipped .remains) at w in
-      let d′ : triangles₂ ≡ trianglesWith triangles₁ (c .triangles) (lastTriangle fs (k .ring)) = rw (clipped .remains) at d in
-      let o′ : count ≡ c .triangles + length (lastTriangle fs (k .ring)) = rw (clipped .remains) at o in
-      record {
-        written = w′ ∙ log-some log log₁ _ n (c .entries) (k .log) left (clipped .written) (clipped .counted) refl;
-        entries = omega (arith, clipped .counted, clipped .size, length-append (k .log) left, length-map (k .ring) (λ (a : ℕ). entry 3 a 0 0));
-        drawn = d′ ∙ triangles-some triangles triangles₁ _ 0 (c .triangles) (earsOf (k .log)) (lastTriangle fs (k .ring)) (clipped .ears) (clipped .offered ∙ sym (zero-add (length (earsOf (k .log))))) refl;
-        offered = o′ ∙ omega (arith, clipped .offered, length-append (earsOf (k .log)) (lastTriangle fs (k .ring)));
-      }
+    pub cut-draws : (log₂ triangles₂ rest : List ℕ) (r : LidCounts) → rest ≡ midOf (length ring′ - c .left) (length ring′ - (length ring′ - c .left)) ring′
+        → (log₂ ≡ logWith log₁ (c .entries) (map (λ a. entry 3 a 0 0) rest)) × (triangles₂ ≡ trianglesWith triangles₁ (c .triangles) (lastTriangle fs rest))
+        × (r ≡ record { entries = c .entries + length rest; triangles = c .triangles + length (lastTriangle fs rest) })
+        → WritesLid (ringEntries (clip fs (length ring) ring)) (ringTriangles fs (clip fs (length ring) ring)) log log₂ n triangles triangles₂ r
+    cut-draws log₂ triangles₂ rest r is wrote =
+        let k = clip fs (length ring) ring in
+        let left : List Entry = map (λ a. entry 3 a 0 0) (k .ring) in
+        let e : rest ≡ k .ring = is ∙ rest-is in
+        let w : log₂ ≡ logWith log₁ (c .entries) left = rw e at (wrote .0) in
+        let d : triangles₂ ≡ trianglesWith triangles₁ (c .triangles) (lastTriangle fs (k .ring)) = rw e at (wrote .1) in
+        let o : r ≡ record { entries = c .entries + length (k .ring); triangles = c .triangles + length (lastTriangle fs (k .ring)) } = rw e at (wrote .2) in
+        rw o (record {
+          written = w ∙ log-some log log₁ _ n (c .entries) (k .log) left (clipped .written) (clipped .counted) refl;
+          entries = omega (arith, clipped .counted, length-append (k .log) left, length-map (k .ring) (λ (a : ℕ). entry 3 a 0 0));
+          drawn = d ∙ triangles-some triangles triangles₁ _ 0 (c .triangles) (earsOf (k .log)) (lastTriangle fs (k .ring)) (clipped .ears) (clipped .offered ∙ sym (zero-add (length (earsOf (k .log))))) refl;
+          offered = omega (arith, clipped .offered, length-append (earsOf (k .log)) (lastTriangle fs (k .ring)));
+        })

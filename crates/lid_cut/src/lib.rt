@@ -1,13 +1,13 @@
 // A ring clipped, and what is left of it written, as in `triangulate`.
 ghost use mathlib.Core.Path.{_≡_};
 ghost use mathlib.Core.List.{map};
-ghost use Prim.Native.Nat.{_+_, _<_, _≤_, _^_};
+ghost use Prim.Native.Nat.{_+_, _<_, _^_};
 ghost use lib.ListN.{length};
 ghost use Rattle.lid.specs.Log.{entry};
 ghost use Rattle.lid.specs.Contract.Rings.{flatsIn};
 ghost use Rattle.lid.specs.Lid.{lastTriangle};
 ghost use Rattle.lid.specs.Contract.Written.{logWith, trianglesWith, LidWritten};
-ghost use Rattle.lid_cut.specs.Contract.CutRing.{ringLid};
+ghost use Rattle.lid_cut.specs.Contract.CutRing.{ringLid, RestWritten};
 use lid::CornerNumber;
 use lid::LidCounts;
 use lid_clip::clip;
@@ -52,26 +52,52 @@ fn put_last(xs: &[f32], ys: &[f32], ring: &[u32], triangles: &mut [u32], count: 
     count
 }
 
-// Clips a ring, with room for a note per place, from entry n of the log on, and writes what is left.
+// Writes both of the corners left, from entry n of the log on. The result is how many entries and triangles there then are.
+fn put_rest(
+    xs: &[f32],
+    ys: &[f32],
+    ring: &[u32],
+    log: &mut [u32],
+    n: u32,
+    triangles: &mut [u32],
+    count: u32,
+) -> LidCounts
+    requires { ⌜ (n + length (now ring) < 2 ^ 32) × (count + 1 < 2 ^ 32) ⌝ }
+    ensures { λ r. ⌜ RestWritten (flatsIn xs ys) (now (ring .entry)) log n triangles count r ⌝ }
+{
+    put_left(ring, log, n);
+    let c = put_last(xs, ys, ring, triangles, count);
+    LidCounts {
+        entries: n + ring.len() as u32,
+        triangles: c,
+    }
+}
+
+// Clips a ring, with room for the coordinates and a note of each place, from entry n of the log on, and writes what is left.
 pub fn cut_ring(
     xs: &[f32],
     ys: &[f32],
     ring: &mut [u32],
+    rxs: &mut [f32],
+    rys: &mut [f32],
     why: &mut [u32],
     log: &mut [u32],
     n: u32,
     triangles: &mut [u32],
 ) -> LidCounts
     requires { ⌜ n + length (now ring) + 1 < 2 ^ 32 ⌝ }
-    requires { ⌜ length (now ring) ≤ length (now why) ⌝ }
+    requires { ⌜ (length (now rxs) ≡ length (now ring)) × (length (now rys) ≡ length (now ring)) × (length (now why) ≡ length (now ring)) ⌝ }
     ensures { λ r. ⌜ LidWritten (ringLid (flatsIn xs ys) (now (ring .entry))) log n triangles r ⌝ }
 {
-    let c = clip(xs, ys, ring, why, log, n, triangles);
-    let left = c.left;
-    put_left(&ring[..left], log, c.entries);
-    let count = put_last(xs, ys, &ring[..left], triangles, c.triangles);
-    LidCounts {
-        entries: c.entries + left as u32,
-        triangles: count,
-    }
+    let c = clip(xs, ys, ring, rxs, rys, why, log, n, triangles);
+    let first = ring.len() - c.left;
+    put_rest(
+        xs,
+        ys,
+        &ring[first..],
+        log,
+        c.entries,
+        triangles,
+        c.triangles,
+    )
 }

@@ -12,7 +12,7 @@ use Rattle.lid.specs.Log.{Entry, entry}
 use Rattle.lid.specs.Contract.Written.{logWith}
 use Rattle.lid_hole.specs.Contract.Holes.{skips}
 use Rattle.lid_log.proofs.RecordLaws.{log-some}
-use Rattle.lid_ring.proofs.RingLaws.{fill-next}
+use Rattle.lists.proofs.Buffers.{fill-next}
 
 -- ---- the entries of skipped holes
 

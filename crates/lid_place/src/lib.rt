@@ -4,8 +4,9 @@ pub mod corners;
 
 ghost use mathlib.Core.Path.{_≡_};
 ghost use Prim.Native.Nat.{_<_};
-ghost use lib.ListN.{length};
-ghost use Rattle.lists.specs.Loops.{next, previous, removeAt, over};
+ghost use mathlib.Core.List.{_++_};
+ghost use lib.ListN.{length, take};
+ghost use Rattle.lists.specs.Loops.{next, previous, removeAt};
 use lid::RingPlace;
 
 // The place before, in a ring of n places.
@@ -32,15 +33,26 @@ pub fn place_after(n: usize, at: RingPlace) -> RingPlace
     RingPlace(i + 1)
 }
 
-// Takes the corner at a place out of a ring: those behind it move down, and the last place keeps its number.
+// Takes the corner at a place out of a ring: those before it move up, and the first place keeps its number.
 pub fn remove(ring: &mut [u32], at: RingPlace)
     requires { ⌜ at .0 < length (now ring) ⌝ }
-    ensures { λ _. ⌜ now (ring .exit) ≡ over (removeAt (at .0) (now (ring .entry))) (now (ring .entry)) ⌝ }
+    ensures { λ _. ⌜ now (ring .exit) ≡ take 1 (now (ring .entry)) ++ removeAt (at .0) (now (ring .entry)) ⌝ }
 {
     let mut j = at.0;
-    let last = ring.len() - 1;
-    while j < last {
-        ring[j] = ring[j + 1];
-        j += 1;
+    while 0 < j {
+        ring[j] = ring[j - 1];
+        j -= 1;
+    }
+}
+
+// The same for a coordinate of each place.
+pub fn remove_coordinate(xs: &mut [f32], at: RingPlace)
+    requires { ⌜ at .0 < length (now xs) ⌝ }
+    ensures { λ _. ⌜ now (xs .exit) ≡ take 1 (now (xs .entry)) ++ removeAt (at .0) (now (xs .entry)) ⌝ }
+{
+    let mut j = at.0;
+    while 0 < j {
+        xs[j] = xs[j - 1];
+        j -= 1;
     }
 }

@@ -1,13 +1,12 @@
 -- Rings filled in place, and turned. Assumes nothing.
 use mathlib.Core.Path.{_≡_, refl, sym, ap, _∙_}
 use mathlib.Core.Bool.{Bool, true, false, _||_, Bool·beq, cond}
-use mathlib.Core.List.{List, [], _∷_, _++_, append-assoc, append-nil, reverse, reverse-append}
+use mathlib.Core.List.{List, [], _∷_, _++_, reverse, reverse-append}
 use Prim.Native.Nat.{ℕ, zero, suc, _+_, _-_, _<_, _≤_}
 use native.Mathlib.Nat.{add-zero}
 use native.Mathlib.Numerals.{add-one}
 use native.Mathlib.Omega.{arith}
-use lib.ListN.{length, take, set}
-use lib.Seq.{take-suc-set, take-all}
+use lib.ListN.{length}
 use lib.Dec.{ltb}
 use lib.Ieee.{Float, lt}
 use Rattle.lists.specs.Loops.{list}
@@ -17,16 +16,6 @@ use Rattle.float.specs.Signs.{magnitude}
 use Rattle.lid.specs.declared.Flat.{Flat}
 use Rattle.lid.specs.Rings.{area, tooSmall, turnOuter, turnHole}
 use Rattle.lid.specs.Contract.Steps.{turned}
-
--- a list filled from the front: one more element, and the end
-pub fill-next : {A : Type 0} (l : List A) (k : ℕ) (v : A) (more all : List A) → k < length l → take k l ++ v ∷ more ≡ all → take (k + 1) (set l k v) ++ more ≡ all
-fill-next {A} l k v more all h e =
-    ap (λ (r : List A). r ++ more) (ap (λ (n : ℕ). take n (set l k v)) (add-one k) ∙ take-suc-set l k v h)
-    ∙ append-assoc (take k l) (v ∷ []) more
-    ∙ e
-
-pub fill-end : {A : Type 0} (l : List A) (k : ℕ) (all : List A) → length l ≤ k → take k l ++ [] ≡ all → l ≡ all
-fill-end l k all h e = sym (take-all k l h) ∙ sym (append-nil (take k l)) ∙ e
 
 -- the numbers from v on, and from below v down
 abbrev pub up : ℕ → ℕ → List ℕ

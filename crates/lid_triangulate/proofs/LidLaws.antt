@@ -41,11 +41,20 @@ module _ (fs : List Flat) (hs : List Hole) (ring buffer ring′ log log₁ : Lis
   pub joined-fits : m ≤ length ring′
   joined-fits = omega (arith, ap length joined-front, joined .places, length-take m ring′)
 
-  pub joined-room : (k long hole hole′ : ℕ) → length ring′ ≡ long → hole′ ≡ hole → n + k + long + 1 < 2 ^ 32 → long ≤ hole
-      → (n + k + length (take m ring′) + 1 < 2 ^ 32) × (length (take m ring′) ≤ hole′)
-  joined-room k long hole hole′ kept held room fits =
-      let size : length (take m ring′) ≡ m = length-take-le m ring′ joined-fits in
-      (omega (arith, size, joined-fits, kept, room), omega (arith, size, joined-fits, kept, held, fits))
+  pub joined-in : (long room : ℕ) → length ring′ ≡ long → room ≡ long → m ≤ room
+  joined-in long room kept same = omega (arith, joined-fits, kept, same)
+
+  pub joined-room : (k long : ℕ) (rxs rys : List Float) (hole : List ℕ) → length ring′ ≡ long → length rxs ≡ long → length rys ≡ long → length hole ≡ long → n + k + long + 1 < 2 ^ 32
+      → (n + k + length (take m ring′) + 1 < 2 ^ 32) × ((length (take m rxs) ≡ length (take m ring′)) × (length (take m rys) ≡ length (take m ring′)) × (length (take m hole) ≡ length (take m ring′)))
+  joined-room k long rxs rys hole kept rxs-long rys-long hole-long room =
+      let size : length (take m ring′) ≡ m = length-take-le m ring′ joined-fits in (
+        omega (arith, size, joined-fits, kept, room),
+        (
+          length-take-le m rxs (joined-in long (length rxs) kept rxs-long) ∙ sym size,
+          length-take-le m rys (joined-in long (length rys) kept rys-long) ∙ sym size,
+          length-take-le m hole (joined-in long (length hole) kept hole-long) ∙ sym size,
+        ),
+      )
 
   pub joined-draws : (log₂ triangles triangles₂ : List ℕ) (k : ℕ) (r : LidCounts) → k ≡ length hs
       → WritesLid (ringEntries (clip fs (length (take m ring′)) (take m ring′))) (ringTriangles fs (clip fs (length (take m ring′)) (take m ring′))) log₁ log₂ (n + k) triangles triangles₂ r

@@ -52,10 +52,13 @@ fn cut_open(
     counts: &[u32],
     ring: &mut [u32],
     hole: &mut [u32],
+    rxs: &mut [f32],
+    rys: &mut [f32],
     log: &mut [u32],
     triangles: &mut [u32],
 ) -> LidCounts
     requires { ⌜ BuffersFit outer (now counts) (length (now ring)) (length (now hole)) ⌝ }
+    requires { ⌜ (length (now rxs) ≡ length (now ring)) × (length (now rys) ≡ length (now ring)) ⌝ }
     requires { ⌜ take outer (now ring) ≡ turnOuter (flats (now xs) (now ys)) (list (λ i. i) outer 0) ⌝ }
     ensures { λ r. ⌜ LidWritten (lidOpen (flatsIn xs ys) outer (now (counts .entry))) log 0 triangles r ⌝ }
 {
@@ -78,7 +81,9 @@ fn cut_open(
         xs,
         ys,
         &mut ring[..m],
-        hole,
+        &mut rxs[..m],
+        &mut rys[..m],
+        &mut hole[..m],
         log,
         p.entries + c as u32,
         triangles,
@@ -93,10 +98,13 @@ fn cut_lid(
     counts: &[u32],
     ring: &mut [u32],
     hole: &mut [u32],
+    rxs: &mut [f32],
+    rys: &mut [f32],
     log: &mut [u32],
     triangles: &mut [u32],
 ) -> LidCounts
     requires { ⌜ BuffersFit outer (now counts) (length (now ring)) (length (now hole)) ⌝ }
+    requires { ⌜ (length (now rxs) ≡ length (now ring)) × (length (now rys) ≡ length (now ring)) ⌝ }
     ensures { λ r. ⌜ LidWritten (lidOf (flatsIn xs ys) outer (now (counts .entry))) log 0 triangles r ⌝ }
 {
     let m = outer as usize;
@@ -107,7 +115,7 @@ fn cut_lid(
             triangles: 0,
         };
     }
-    cut_open(xs, ys, outer, counts, ring, hole, log, triangles)
+    cut_open(xs, ys, outer, counts, ring, hole, rxs, rys, log, triangles)
 }
 
 // Cuts the lid of an outline's flat corners, whose coordinates are `xs` and `ys`: `outer` corners and then those of the holes, of the given
@@ -128,9 +136,35 @@ pub fn triangulate(
     if hole_start(outer, counts, n) as usize + 2 * n <= 32 {
         let mut ring = [0; 32];
         let mut hole = [0; 32];
-        return cut_lid(xs, ys, outer, counts, &mut ring, &mut hole, log, triangles);
+        let mut rxs = [0.0; 32];
+        let mut rys = [0.0; 32];
+        return cut_lid(
+            xs,
+            ys,
+            outer,
+            counts,
+            &mut ring,
+            &mut hole,
+            &mut rxs,
+            &mut rys,
+            log,
+            triangles,
+        );
     }
     let mut ring = [0; 576];
     let mut hole = [0; 576];
-    cut_lid(xs, ys, outer, counts, &mut ring, &mut hole, log, triangles)
+    let mut rxs = [0.0; 576];
+    let mut rys = [0.0; 576];
+    cut_lid(
+        xs,
+        ys,
+        outer,
+        counts,
+        &mut ring,
+        &mut hole,
+        &mut rxs,
+        &mut rys,
+        log,
+        triangles,
+    )
 }

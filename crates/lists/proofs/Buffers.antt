@@ -1,12 +1,13 @@
 -- What stands in a buffer after it was written, and records written as numbers one behind the other and read back. Assumes nothing.
 use mathlib.Core.Path.{_≡_, refl, sym, _∙_, ap, ap₂}
-use mathlib.Core.List.{List, [], _∷_, _++_}
+use mathlib.Core.List.{List, [], _∷_, _++_, append-assoc, append-nil}
 use Prim.Native.Nat.{ℕ, zero, suc, _+_, _-_, _*_, _/_, _<_, _≤_}
 use native.Mathlib.Nat.{mul-div-right}
+use native.Mathlib.Numerals.{add-one}
 use native.Mathlib.Omega.{arith}
 use lib.Dec.{lit<}
-use lib.ListN.{length, getD, take, drop, take-append-drop}
-use lib.Seq.{getD-append-add, take-append-seam, drop-append-seam, drop-drop}
+use lib.ListN.{length, getD, take, drop, set, take-append-drop}
+use lib.Seq.{getD-append-add, take-append-seam, drop-append-seam, drop-drop, take-suc-set, take-all}
 use Rattle.lists.specs.Loops.{list, join, over}
 use Rattle.lists.proofs.Lists.{join-size}
 
@@ -35,6 +36,16 @@ pub behind-later : {A : Type 0} (m n : ℕ) (l r : List A) → m ≤ n → drop 
 behind-later m n l r h e =
     let k : n ≡ m + (n - m) = omega arith in
     ap (λ (i : ℕ). drop i l) k ∙ sym (drop-drop (n - m) m l) ∙ ap (drop (n - m)) e ∙ drop-drop (n - m) m r ∙ ap (λ (i : ℕ). drop i r) (sym k)
+
+-- a list filled from the front: one more element, and the end
+pub fill-next : {A : Type 0} (l : List A) (k : ℕ) (v : A) (more all : List A) → k < length l → take k l ++ v ∷ more ≡ all → take (k + 1) (set l k v) ++ more ≡ all
+fill-next {A} l k v more all h e =
+    ap (λ (r : List A). r ++ more) (ap (λ (n : ℕ). take n (set l k v)) (add-one k) ∙ take-suc-set l k v h)
+    ∙ append-assoc (take k l) (v ∷ []) more
+    ∙ e
+
+pub fill-end : {A : Type 0} (l : List A) (k : ℕ) (all : List A) → length l ≤ k → take k l ++ [] ≡ all → l ≡ all
+fill-end l k all h e = sym (take-all k l h) ∙ sym (append-nil (take k l)) ∙ e
 
 -- ---- records of w numbers each
 

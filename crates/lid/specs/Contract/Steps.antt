@@ -57,9 +57,10 @@ turned outer fs ring = cond outer (turnOuter fs ring) (turnHole fs ring)
 abbrev pub cutEntry : ℕ → List ℕ → ℕ → Entry
 cutEntry mark ring i = entry mark (before ring i) (here ring i) (after ring i)
 
--- the corner at place i was cut off: out of the ring, its entry into the log, its triangle, if it is an ear, to the triangles
+-- the corner at place i was cut off: out of the ring, whose others are the last ones of the buffer, its entry into the log, its triangle, if it is an
+-- ear, to the triangles
 pub record Cuts (mark : ℕ) (ring : List ℕ) (i : ℕ) (ring′ log log′ : List ℕ) (n : ℕ) (triangles triangles′ : List ℕ) (count r : ℕ) : Type 0 where
-  pub removed : take (length ring - 1) ring′ ≡ removeAt i ring
+  pub removed : drop 1 ring′ ≡ removeAt i ring
   pub written : log′ ≡ logWith log n (cutEntry mark ring i ∷ [])
   pub ears : triangles′ ≡ trianglesWith triangles count (earsOf (cutEntry mark ring i ∷ []))
   pub offered : r ≡ count + length (earsOf (cutEntry mark ring i ∷ []))
@@ -69,10 +70,10 @@ abbrev pub CornerCut : ℕ → ℕ → Slice ℕ → Slice ℕ → ℕ → Slice
 CornerCut mark i ring log n triangles count r =
     Cuts mark (now (ring .entry)) i (now (ring .exit)) (now (log .entry)) (now (log .exit)) n (now (triangles .entry)) (now (triangles .exit)) count r
 
--- a ring was clipped to k: its corners left are the first ones of the buffer, its entries stand in the log from entry n on, its ears in
+-- a ring was clipped to k: its corners left are the last ones of the buffer, its entries stand in the log from entry n on, its ears in
 -- the triangles from the first
 pub record Clips (k : Logged) (ring′ log log′ : List ℕ) (n : ℕ) (triangles triangles′ : List ℕ) (r : Clipped) : Type 0 where
-  pub remains : take (r .left) ring′ ≡ k .ring
+  pub remains : drop (length ring′ - r .left) ring′ ≡ k .ring
   pub size : r .left ≡ length (k .ring)
   pub written : log′ ≡ logWith log n (k .log)
   pub counted : r .entries ≡ n + length (k .log)

@@ -9,7 +9,7 @@ use Rattle.lid_clip.proofs.clip_step.Tie as tie
 
 returns : tie.Need-returns
 unfolding clipStep stepNotes
-returns c = (rw (le-leb _ _ (c .if1 .taken)), (c .before .before .before .before .before .pre .1, rw (le-leb _ _ (c .if1 .taken))))
+returns c = (rw (le-leb _ _ (c .if1 .taken)), (c .before .before .before .before .before .before .before .pre .1 .1, rw (le-leb _ _ (c .if1 .taken))))
 
 returns-2 : tie.Need-returns-2
 unfolding clipStep cutEar stepNotes

@@ -1,11 +1,11 @@
 -- Tests of whether places are ears, notes of how far they have come, and what a search does to the notes. Definitions only.
 use mathlib.Core.Path.{_≡_}
-use mathlib.Core.Bool.{Bool, true, false, not, cond}
-use mathlib.Core.List.{List}
+use mathlib.Core.Bool.{Bool, true, false, not, cond, _&&_}
+use mathlib.Core.List.{List, map}
 use Prim.Native.Nat.{ℕ, zero, suc, _+_, _-_, _/_, _%_, _<_, _≤_}
 use lib.ListN.{length, getD, set}
 use lib.Dec.{eqb}
-use lib.Ieee.{lt}
+use lib.Ieee.{Float, lt, nan}
 use Rattle.lists.specs.declared.Found.{Found}
 use Rattle.lists.specs.declared.Found.the-variants.{At, Nowhere}
 use Rattle.lists.specs.Loops.{first}
@@ -14,7 +14,7 @@ use Rattle.lid.specs.declared.Flat.{Flat}
 use Rattle.lid.specs.declared.Corners.{Corners}
 use Rattle.lid.specs.declared.Tested.{Tested}
 use Rattle.lid.specs.declared.Tested.the-variants.{Ear, No}
-use Rattle.lid.specs.Rings.{corner, turnOf}
+use Rattle.lid.specs.Rings.{corner, turn, turnOf}
 use Rattle.lid.specs.Clipping.{before, here, after, clear}
 use Rattle.lid.specs.Contract.Steps.{clearBy}
 use Rattle.lid_clip_ear.specs.Contract.Notes.{failedAt}
@@ -59,13 +59,37 @@ searched fs ring (suc m) i why = noteDown (λ w. searched fs ring m (suc i) w) w
 
 -- ---- one triangle
 
--- the corner at place k stands in the way of t, at a, b, c
-abbrev pub blocks : List Flat → Corners → Flat → Flat → Flat → List ℕ → ℕ → Bool
-blocks fs t a b c ring k = not (clearBy t a b c (getD ring k 0) (corner fs (getD ring k 0)))
+-- two lists hold the coordinates of the corner at each place of a ring
+pub record InRingOrder (fs : List Flat) (ring : List ℕ) (rxs rys : List Float) : Type 0 where
+  pub first-coordinates : rxs ≡ map (λ p. corner fs p .x) ring
+  pub second-coordinates : rys ≡ map (λ p. corner fs p .y) ring
 
--- the first place from `from` on whose corner does
-abbrev pub firstBlock : List Flat → Corners → Flat → Flat → Flat → List ℕ → ℕ → Found
-firstBlock fs t a b c ring from = first (blocks fs t a b c ring) (length ring - from) from
+-- the corner at place k, by these
+abbrev pub flatAt : List Float → List Float → ℕ → Flat
+flatAt rxs rys k = record { x = getD rxs k nan; y = getD rys k nan }
+
+-- it does not stand in the way of t, at a, b, c; or it does
+abbrev pub clearAt : List Float → List Float → List ℕ → Corners → Flat → Flat → Flat → ℕ → Bool
+clearAt rxs rys ring t a b c k = clearBy t a b c (getD ring k 0) (flatAt rxs rys k)
+
+abbrev pub blocksAt : List Float → List Float → List ℕ → Corners → Flat → Flat → Flat → ℕ → Bool
+blocksAt rxs rys ring t a b c k = not (clearAt rxs rys ring t a b c k)
+
+-- it lies beyond the diagonal from c to a
+abbrev pub beyondAt : List Float → List Float → Flat → Flat → ℕ → Bool
+beyondAt rxs rys a c k = lt (turn c a (flatAt rxs rys k)) zerof
+
+-- four places from k on pass a test
+abbrev pub four : (ℕ → Bool) → ℕ → Bool
+four p k = p k && p (k + 1) && p (k + 2) && p (k + 3)
+
+-- the first place from `from` on whose corner stands in the way
+abbrev pub firstAt : List Float → List Float → List ℕ → Corners → Flat → Flat → Flat → ℕ → Found
+firstAt rxs rys ring t a b c from = first (blocksAt rxs rys ring t a b c) (length ring - from) from
+
+-- the corners from place `from` up to place k are clear
+abbrev pub ClearUpTo : List Float → List Float → List ℕ → Corners → Flat → Flat → Flat → ℕ → ℕ → Type 0
+ClearUpTo rxs rys ring t a b c from k = firstAt rxs rys ring t a b c k ≡ firstAt rxs rys ring t a b c from
 
 -- the test of a corner by the corner's place
 unfoldable pub behind : Found → Found

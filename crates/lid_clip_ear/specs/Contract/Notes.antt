@@ -3,11 +3,11 @@
 use mathlib.Core.Path.{_≡_}
 use mathlib.Core.Bool.{cond}
 use mathlib.Core.List.{List, _++_, map}
-use Prim.Native.Nat.{ℕ, _+_, _-_, _*_}
-use lib.ListN.{length, set, take, drop}
+use Prim.Native.Nat.{ℕ, _+_, _-_, _*_, _≤_}
+use lib.ListN.{length, getD, set, take, drop}
 use lib.Dec.{ltb}
 use denote.Ref.{now}
-use Rattle.lists.specs.Loops.{next, previous, removeAt, over}
+use Rattle.lists.specs.Loops.{next, previous, removeAt}
 use Rattle.lists.specs.Slices.{Slice}
 
 -- the note where test j is the first to fail; where the number is too large for a note, the greatest that says only that tests pass
@@ -31,9 +31,13 @@ moved i q = movedBy (2 * i + 2) q
 unfoldable pub capped : ℕ → ℕ
 capped i = cond (ltb i 2147483647) (2 * i + 2) 4294967295
 
--- notes of which those behind place i are moved, each to the place before its own
-abbrev pub movedBehind : ℕ → ℕ → List ℕ → List ℕ
-movedBehind low i why = take i why ++ map (movedBy low) (drop (i + 1) why)
+-- notes of which those before place i are moved, each to the place behind its own; the first place keeps its note
+abbrev pub movedBefore : ℕ → ℕ → List ℕ → List ℕ
+movedBefore low i why = take 1 why ++ (map (movedBy low) (take i why) ++ drop (i + 1) why)
+
+-- there is no note from place m on
+abbrev pub NoneFrom : ℕ → List ℕ → Type 0
+NoneFrom m why = (k : ℕ) → m ≤ k → getD why k 0 ≡ 0
 
 -- the notes where those of the neighbours of place i start anew
 abbrev pub anew : ℕ → List ℕ → List ℕ
@@ -43,6 +47,6 @@ anew i why = set (set why (previous (length why) i) 0) (next (length why) i) 0
 unfoldable pub without : ℕ → List ℕ → List ℕ
 without i why = map (moved i) (removeAt i (anew i why))
 
--- the notes in a lent slice became those; its last place, which is left over, keeps its note unless it is a neighbour's
+-- the notes in a lent slice became those, from its second place on; the first, which is left over, keeps its note unless it is a neighbour's
 abbrev pub PlaceForgotten : ℕ → Slice ℕ → Type 0
-PlaceForgotten i why = now (why .exit) ≡ over (without i (now (why .entry))) (anew i (now (why .entry)))
+PlaceForgotten i why = now (why .exit) ≡ take 1 (anew i (now (why .entry))) ++ without i (now (why .entry))

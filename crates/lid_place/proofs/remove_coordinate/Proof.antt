@@ -1,0 +1,41 @@
+-- `lid_place::remove_coordinate` meets its contract. Assumes nothing.
+use native.Mathlib.Omega.{arith}
+use lib.Ieee.{nan}
+use Rattle.lid_place.proofs.RemoveLaws.{Removing, removing-start, removing-next, removing-end}
+use Rattle.lid_place.proofs.remove_coordinate.Statement.{statement}
+use Rattle.lid_place.proofs.remove_coordinate.Tie as tie
+
+abbrev Inv-loop : tie.InvT-loop
+Inv-loop xs₀ j₀ xs j = Removing xs₀ j₀ xs j
+
+abbrev μ-loop : tie.MeasureT-loop
+μ-loop xs₀ j₀ xs j = j
+
+mul-xs : tie.Need-mul-xs Inv-loop μ-loop
+mul-xs c = omega (arith, c .before .loop .inv .long, c .before .loop .inv .near)
+
+slice-read-xs : tie.Need-slice-read-xs Inv-loop μ-loop
+slice-read-xs c = omega (arith, c .before .before .loop .inv .long, c .before .before .loop .inv .near)
+
+mul-xs-2 : tie.Need-mul-xs-2 Inv-loop μ-loop
+mul-xs-2 c = omega (arith, c .before .before .loop .inv .long, c .before .before .loop .inv .near)
+
+slice-write-xs : tie.Need-slice-write-xs Inv-loop μ-loop
+slice-write-xs c = omega (arith, c .before .before .loop .inv .long, c .before .before .loop .inv .near)
+
+loop-again : tie.Need-loop-again Inv-loop μ-loop
+loop-again c =
+    let l = c .before .before .loop in
+    removing-next _ _ nan (l .xs) (l .j) (c .before .loop-test .taken) (c .before .before .before .pre) (l .inv)
+
+same-length : tie.Need-same-length Inv-loop μ-loop
+same-length c = c .before .loop .inv .long
+
+returns : tie.Need-returns Inv-loop μ-loop
+returns c = removing-end _ _ (c .before .loop .xs) (c .before .loop .j) (c .loop-test .left) (c .before .loop .inv)
+
+pub remove-coordinate-spec : {M : Type 1} → statement M
+remove-coordinate-spec =
+    tie.close
+    (tie.spec Inv-loop μ-loop (λ c. removing-start _ _) (λ c. omega arith) mul-xs slice-read-xs mul-xs-2 slice-write-xs (λ c. omega arith)
+    (λ c. omega arith) loop-again same-length returns)
