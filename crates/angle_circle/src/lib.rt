@@ -1,14 +1,13 @@
 // The sines and cosines of a prism's sixteen ring points, at k * TAU / 16, and of its sixteen side
 // directions, half a step further: document 01, section 3.
 ghost use mathlib.Core.Path.{_≡_};
-ghost use Prim.Native.Nat.{_<_};
 ghost use Rattle.angle_circle.specs.Circle.{angle, sideAngle};
 ghost use Rattle.angle_circle.specs.Contract.Circle.{sinCos};
 
-// The sine and the cosine of one angle.
+// The sines and the cosines of sixteen angles.
 pub struct SinCos {
-    pub sin: f32,
-    pub cos: f32,
+    pub sin: [f32; 16],
+    pub cos: [f32; 16],
 }
 
 const RING_SINES: [f32; 16] = [
@@ -87,24 +86,22 @@ const SIDE_COSINES: [f32; 16] = [
     0.9807853,
 ];
 
-// Of ring point k.
-pub fn ring_sin_cos(k: usize) -> SinCos
-    requires { ⌜ k < 16 ⌝ }
-    ensures { λ r. ⌜ r ≡ sinCos (angle k) ⌝ }
+// Of the ring points. A constant array is copied at each use: a loop asks for all before it begins.
+pub fn ring_sin_cos() -> SinCos
+    ensures { λ r. ⌜ r ≡ sinCos angle ⌝ }
 {
     SinCos {
-        sin: RING_SINES[k],
-        cos: RING_COSINES[k],
+        sin: RING_SINES,
+        cos: RING_COSINES,
     }
 }
 
-// Of the direction that side k faces.
-pub fn side_sin_cos(k: usize) -> SinCos
-    requires { ⌜ k < 16 ⌝ }
-    ensures { λ r. ⌜ r ≡ sinCos (sideAngle k) ⌝ }
+// Of the directions that the sides face.
+pub fn side_sin_cos() -> SinCos
+    ensures { λ r. ⌜ r ≡ sinCos sideAngle ⌝ }
 {
     SinCos {
-        sin: SIDE_SINES[k],
-        cos: SIDE_COSINES[k],
+        sin: SIDE_SINES,
+        cos: SIDE_COSINES,
     }
 }

@@ -1,29 +1,39 @@
 -- The parts of a cylinder: their points and triangles, how many more can be counted behind them, a side's points read from its rings, and the whole drawn part by part. Assumes nothing.
-use mathlib.Core.Path.{_≡_, refl}
+use mathlib.Core.Path.{_≡_, refl, ap₂, _∙_}
 use mathlib.Core.Bool.{true, false}
 use mathlib.Core.List.{List, [], _∷_}
 use Prim.Native.Nat.{ℕ, _*_, _<_}
 use native.Mathlib.Omega.{arith}
 use lib.ListN.{length, getD}
 use lib.Dec.{lit≤}
-use lib.Ieee.{Float, lt}
+use lib.Ieee.{Float, nan, lt}
 use Rattle.lists.specs.Loops.{list, sumOf, next}
 use Rattle.lists.proofs.Lists.{getD-any}
-use Rattle.float.specs.Number.{zerof, onef}
+use Rattle.float.specs.Number.{zerof, onef, _*f_}
 use Rattle.coords.specs.declared.Point.{Point}
 use Rattle.coords_vector.specs.declared.Vector.{Vector}
 use Rattle.coords_vector.specs.Vectors.{negate}
-use Rattle.coords.specs.Coords.{origin}
-use Rattle.angle_circle.specs.Circle.{sideAngle, sine, cosine}
+use Rattle.coords.specs.Coords.{origin, moved}
+use Rattle.angle_circle.specs.Circle.{angle, sideAngle, sine, cosine}
+use Rattle.angle_circle.proofs.Table.{Tables, cosine-at, sine-at}
 use Rattle.object.specs.declared.Orientation.{Orientation}
 use Rattle.object.specs.Object.{frame}
 use Rattle.face.specs.Faces.{fan, quad}
 use Rattle.face.specs.Contract.Drawing.{Drawing, Drew, Countable}
 use Rattle.face.specs.declared.Tally.{Tally}
-use Rattle.shape.specs.Shapes.{ringAt, cylinderSide, endFace}
+use Rattle.shape.specs.Shapes.{ringPoint, ringAt, cylinderSide, endFace}
 use Rattle.shape.specs.Contract.Stages.{PartRun, cylinderStages, DrewStages}
 use Rattle.shape.proofs.Stages.{stages-none, stages-first, stages-empty}
 use Rattle.shape.proofs.Sized.{Sized, sized-list, countable-left}
+
+-- a ring point and the direction of a side, by the tables of cosines and sines
+module _ {cos sin : List Float} (k : ℕ) (h : k < 16) where
+  pub ring-read : Tables angle cos sin → (o : Point) (t : Orientation) (r z : Float) {p : Point} → p ≡ moved o (frame t (r *f getD cos k nan) (r *f getD sin k nan) z) → p ≡ ringPoint o t r z k
+  unfolding ringPoint
+  ring-read e o t r z q = q ∙ ap₂ (λ (x y : Float). moved o (frame t (r *f x) (r *f y) z)) (cosine-at angle e k h) (sine-at angle e k h)
+
+  pub side-read : Tables sideAngle cos sin → (t : Orientation) {v : Vector} → v ≡ frame t (getD cos k nan) (getD sin k nan) zerof → v ≡ frame t (cosine (sideAngle k)) (sine (sideAngle k)) zerof
+  side-read e t q = q ∙ ap₂ (λ (x y : Float). frame t x y zerof) (cosine-at sideAngle e k h) (sine-at sideAngle e k h)
 
 pub sides-sized : (t : Orientation) (bottom top : List Point) (n : ℕ) → Sized (list (cylinderSide t bottom top) n 0) (4 * n) (2 * n)
 unfolding cylinderSide quad fan list

@@ -1,53 +1,47 @@
 // The faces of a cylinder: `cylinder` of object_mesh.rs.
 ghost use mathlib.Core.Path.{_≡_};
 ghost use mathlib.Core.List.{[], _∷_};
-ghost use Prim.Native.Nat.{_+_, _<_};
+ghost use Prim.Native.Nat.{_+_};
 ghost use lib.ListN.{getD, length};
 ghost use Rattle.lists.specs.Loops.{list};
 ghost use Rattle.float.specs.Number.{zerof};
-ghost use Rattle.angle_circle.specs.Circle.{sideAngle, sine, cosine};
+ghost use Rattle.coords.specs.Coords.{moved};
 ghost use Rattle.object.specs.Object.{frame};
 ghost use Rattle.face.specs.Contract.Drawing.{Countable, Draws};
-ghost use Rattle.shape.specs.Shapes.{ringPoint, ringAt, cylinderSide};
+ghost use Rattle.shape.specs.Shapes.{ringAt, cylinderSide};
 ghost use Rattle.shape.specs.Contract.Stages.{cylinderStages, DrawsStages};
 use coords::Point;
-use coords_vector::Vector;
 use face::Tally;
 use face_draw::quad;
 use object::Orientation;
 use shape::StageTallies;
 use shape_ring_face::end;
 
-fn ring_point(origin: Point, turn: Orientation, radius: f32, z: f32, k: usize) -> Point
-    requires { ⌜ k < 16 ⌝ }
-    ensures { λ r. ⌜ r ≡ ringPoint origin turn radius z k ⌝ }
+// A point in the solid's own frame.
+fn placed(origin: Point, turn: Orientation, u: f32, v: f32, z: f32) -> Point
+    ensures { λ r. ⌜ r ≡ moved origin (frame turn u v z) ⌝ }
 {
-    let angle = angle_circle::ring_sin_cos(k);
-    origin.add(object_frame::frame(turn, radius * angle.cos, radius * angle.sin, z))
+    origin.add(object_frame::frame(turn, u, v, z))
 }
 
 // The ring points of both ends, the bottom's and the top's.
 fn rings_of(origin: Point, turn: Orientation, radius: f32, height: f32) -> [[Point; 16]; 2]
     ensures { λ r. ⌜ r ≡ ringAt origin turn radius zerof ∷ ringAt origin turn radius height ∷ [] ⌝ }
 {
+    let angles = angle_circle::ring_sin_cos();
+    let cos = angles.cos;
+    let sin = angles.sin;
     let ring = [origin; 16];
     let mut rings = [ring; 2];
     let mut k: usize = 0;
     while k < 16 {
-        rings[0][k] = ring_point(origin, turn, radius, 0.0, k);
-        rings[1][k] = ring_point(origin, turn, radius, height, k);
+        let u = radius * cos[k];
+        let v = radius * sin[k];
+        rings[0][k] = placed(origin, turn, u, v, 0.0);
+        rings[1][k] = placed(origin, turn, u, v, height);
         k = k + 1;
     }
     rings
-}
-
-// The way that side k faces.
-fn side_direction(turn: Orientation, k: usize) -> Vector
-    requires { ⌜ k < 16 ⌝ }
-    ensures { λ r. ⌜ r ≡ frame turn (cosine (sideAngle k)) (sine (sideAngle k)) zerof ⌝ }
-{
-    let angle = angle_circle::side_sin_cos(k);
-    object_frame::frame(turn, angle.cos, angle.sin, 0.0)
 }
 
 // The sides, each from a ring point to the next.
@@ -64,11 +58,14 @@ fn cylinder_sides(
     requires { ⌜ (length (getD rings 0 []) ≡ 16) × (length (getD rings 1 []) ≡ 16) × Countable before t 64 32 ⌝ }
     ensures { λ r. ⌜ Draws limit (list (cylinderSide turn (getD rings 0 []) (getD rings 1 [])) 16 0) before t r vs ns is ⌝ }
 {
+    let angles = angle_circle::side_sin_cos();
+    let cos = angles.cos;
+    let sin = angles.sin;
     let mut u = t;
     let mut k: usize = 0;
     while k < 16 {
         let j = (k + 1) % 16;
-        let out = side_direction(turn, k);
+        let out = object_frame::frame(turn, cos[k], sin[k], 0.0);
         u = quad(
             rings[0][k],
             rings[0][j],

@@ -1,9 +1,8 @@
 // The ellipse inscribed in a section, sixteen points about its centre, and the faces over such rings.
 ghost use mathlib.Core.Path.{_≡_};
-ghost use Prim.Native.Nat.{_<_};
 ghost use Rattle.lists.specs.Loops.{list};
-ghost use Rattle.coords_vector.specs.Vectors.{plus};
-ghost use Rattle.coords.specs.Coords.{diff};
+ghost use Rattle.coords_vector.specs.Vectors.{plus, scale};
+ghost use Rattle.coords.specs.Coords.{diff, moved};
 ghost use Rattle.face.specs.Contract.Drawing.{Countable, Draws};
 ghost use Rattle.shape.specs.Shapes.{ellipsePoint, ellipse, tubeFaces};
 ghost use Rattle.shape_round_sweep.specs.Contract.Rings.{ringAbout};
@@ -21,21 +20,22 @@ pub fn centre(s: Section) -> Point
     s.left.base.lerp(s.right.top, 0.5)
 }
 
-fn ellipse_point(centre: Point, across: Vector, up: Vector, k: usize) -> Point
-    requires { ⌜ k < 16 ⌝ }
-    ensures { λ r. ⌜ r ≡ ellipsePoint centre across up k ⌝ }
+fn ellipse_point(centre: Point, across: Vector, up: Vector, cos: f32, sin: f32) -> Point
+    ensures { λ r. ⌜ r ≡ moved (moved centre (scale across cos)) (scale up sin) ⌝ }
 {
-    let t = angle_circle::ring_sin_cos(k);
-    centre.add(across.scale(t.cos)).add(up.scale(t.sin))
+    centre.add(across.scale(cos)).add(up.scale(sin))
 }
 
 fn ellipse_points(centre: Point, across: Vector, up: Vector) -> [Point; 16]
     ensures { λ r. ⌜ r ≡ list (ellipsePoint centre across up) 16 0 ⌝ }
 {
+    let angles = angle_circle::ring_sin_cos();
+    let cos = angles.cos;
+    let sin = angles.sin;
     let mut ring = [centre; 16];
     let mut k: usize = 0;
     while k < 16 {
-        ring[k] = ellipse_point(centre, across, up, k);
+        ring[k] = ellipse_point(centre, across, up, cos[k], sin[k]);
         k = k + 1;
     }
     ring
