@@ -18,8 +18,8 @@
  *             With exceptions unmasked a call can fault, on ordinary scenes too: the compiled code also
  *             works on numbers that it does not use. Such a thread sets the mode around its calls:
  *                 unsigned mode = _mm_getcsr(); _mm_setcsr(0x1F80); ... _mm_setcsr(mode);
- * Stack       Build takes up to 22 KB, Measure as much, whatever the scene's size, Bound and Validate
- *             under 1 KB. This was measured (21,744 bytes, closed outlines), and is not proved.
+ * Stack       Build takes up to 27 KB, Measure as much, whatever the scene's size, Bound and Validate
+ *             under 1 KB. This was measured (26,344 bytes, closed outlines), and is not proved.
  * Threads     There is no state. Any number of threads may call at once, each with buffers of its own;
  *             they may share a scene.
  *

@@ -10,18 +10,6 @@ Inv-loop ring₀ j₀ ring j = Removing ring₀ j₀ ring j
 abbrev μ-loop : tie.MeasureT-loop
 μ-loop ring₀ j₀ ring j = j
 
-mul-ring : tie.Need-mul-ring Inv-loop μ-loop
-mul-ring c = omega (arith, c .before .loop .inv .long, c .before .loop .inv .near)
-
-slice-read-ring : tie.Need-slice-read-ring Inv-loop μ-loop
-slice-read-ring c = omega (arith, c .before .before .loop .inv .long, c .before .before .loop .inv .near)
-
-mul-ring-2 : tie.Need-mul-ring-2 Inv-loop μ-loop
-mul-ring-2 c = omega (arith, c .before .before .loop .inv .long, c .before .before .loop .inv .near)
-
-slice-write-ring : tie.Need-slice-write-ring Inv-loop μ-loop
-slice-write-ring c = omega (arith, c .before .before .loop .inv .long, c .before .before .loop .inv .near)
-
 loop-again : tie.Need-loop-again Inv-loop μ-loop
 loop-again c =
     let l = c .before .before .loop in
@@ -36,5 +24,5 @@ returns c = removing-end _ _ (c .before .loop .ring) (c .before .loop .j) (c .lo
 pub remove-spec : {M : Type 1} → statement M
 remove-spec =
     tie.close
-    (tie.spec Inv-loop μ-loop (λ c. removing-start _ _) (λ c. omega arith) mul-ring slice-read-ring mul-ring-2 slice-write-ring (λ c. omega arith)
+    (tie.spec Inv-loop μ-loop (λ c. removing-start _ _) (λ c. omega arith) (λ c. omega (arith, c .before .loop .inv .long, c .before .loop .inv .near)) (λ c. omega (arith, c .before .before .loop .inv .long, c .before .before .loop .inv .near)) (λ c. omega (arith, c .before .before .loop .inv .long, c .before .before .loop .inv .near)) (λ c. omega (arith, c .before .before .loop .inv .long, c .before .before .loop .inv .near)) (λ c. omega arith)
     (λ c. omega arith) loop-again same-length returns)

@@ -11,18 +11,6 @@ Inv-loop xs₀ j₀ xs j = Removing xs₀ j₀ xs j
 abbrev μ-loop : tie.MeasureT-loop
 μ-loop xs₀ j₀ xs j = j
 
-mul-xs : tie.Need-mul-xs Inv-loop μ-loop
-mul-xs c = omega (arith, c .before .loop .inv .long, c .before .loop .inv .near)
-
-slice-read-xs : tie.Need-slice-read-xs Inv-loop μ-loop
-slice-read-xs c = omega (arith, c .before .before .loop .inv .long, c .before .before .loop .inv .near)
-
-mul-xs-2 : tie.Need-mul-xs-2 Inv-loop μ-loop
-mul-xs-2 c = omega (arith, c .before .before .loop .inv .long, c .before .before .loop .inv .near)
-
-slice-write-xs : tie.Need-slice-write-xs Inv-loop μ-loop
-slice-write-xs c = omega (arith, c .before .before .loop .inv .long, c .before .before .loop .inv .near)
-
 loop-again : tie.Need-loop-again Inv-loop μ-loop
 loop-again c =
     let l = c .before .before .loop in
@@ -37,5 +25,5 @@ returns c = removing-end _ _ (c .before .loop .xs) (c .before .loop .j) (c .loop
 pub remove-coordinate-spec : {M : Type 1} → statement M
 remove-coordinate-spec =
     tie.close
-    (tie.spec Inv-loop μ-loop (λ c. removing-start _ _) (λ c. omega arith) mul-xs slice-read-xs mul-xs-2 slice-write-xs (λ c. omega arith)
+    (tie.spec Inv-loop μ-loop (λ c. removing-start _ _) (λ c. omega arith) (λ c. omega (arith, c .before .loop .inv .long, c .before .loop .inv .near)) (λ c. omega (arith, c .before .before .loop .inv .long, c .before .before .loop .inv .near)) (λ c. omega (arith, c .before .before .loop .inv .long, c .before .before .loop .inv .near)) (λ c. omega (arith, c .before .before .loop .inv .long, c .before .before .loop .inv .near)) (λ c. omega arith)
     (λ c. omega arith) loop-again same-length returns)
