@@ -4,6 +4,7 @@ use Rattle.mesh.specs.Operations.{noCounts, refusedWith, output, countsO
 use Rattle.mesh.specs.Demand3.{keptCorners, indicesIn, prefixes}
 use Rattle.lists.proofs.Computes.{computes as lists-computes}
 use Rattle.float.proofs.Computes.{computes as float-computes}
+use Rattle.millimetre.proofs.Computes.{computes as millimetre-computes}
 use Rattle.coords.proofs.Computes.{computes as coords-computes}
 use Rattle.angle_circle.proofs.Computes.{computes as circle-computes}
 use Rattle.object.proofs.Computes.{computes as object-computes}
@@ -19,5 +20,5 @@ unfolding keptBy thinBy accountOf pieceOf spanOf addPiece meshFrom meshOf accoun
 computes = tt
 
 unfoldable pub all : Unit {0}
-unfolding computes lists-computes float-computes coords-computes circle-computes object-computes scene-computes face-computes lid-computes flattening-computes shapes-computes validation-computes
+unfolding computes lists-computes float-computes millimetre-computes coords-computes circle-computes object-computes scene-computes face-computes lid-computes flattening-computes shapes-computes validation-computes
 all = tt

@@ -1,5 +1,5 @@
 -- How many indices and normals a mesh has, beside its kept triangles and its vertices, and how many numbers each buffer gets. Assumes nothing.
-use mathlib.Core.Path.{_≡_, refl}
+use mathlib.Core.Path.{_≡_, refl, sym, _∙_}
 use mathlib.Core.List.{List, [], _∷_, map}
 use Prim.Native.Nat.{ℕ, _+_, _*_}
 use native.Mathlib.Omega.{arith}
@@ -9,6 +9,7 @@ use Rattle.lists.specs.Loops.{join, sumOf}
 use Rattle.lists.proofs.Lists.{join-size}
 use Rattle.coords.specs.Buffers.{vertexNumbers, normalRecord, normalNumbers}
 use Rattle.coords.proofs.Buffers.{vertices-size}
+use Rattle.millimetre.specs.Millimetres.{millimetres}
 use Rattle.object.specs.Object.{Object}
 use Rattle.face.proofs.Draws.{normals-size}
 use Rattle.lid.specs.Log.{entryRecord, logNumbers}
@@ -51,4 +52,5 @@ module _ (limit : Float) where
       let spans-are : 5 * length (m .spans) ≡ length (join spanRecord (m .spans)) = omega (arith, join-size spanRecord 5 (λ a. refl) (m .spans)) in
       let account-is : 4 * length os ≡ length (join accountRecord (map (accountOf limit) os)) = omega (arith, join-size accountRecord 4 (λ a. refl) (map (accountOf limit) os), length-map os (accountOf limit)) in
       let log-is : 4 * length (logsOf os) ≡ length (join entryRecord (logsOf os)) = omega (arith, join-size entryRecord 4 (λ a. refl) (logsOf os)) in
-      λ i. record { vertices = vertices-are i; normals = normals-are i; indices = indices-are i; spans = spans-are i; account = account-is i; log = log-is i }
+      let millimetres-are : 3 * length (m .vertices) ≡ length (map millimetres (vertexNumbers (m .vertices))) = vertices-are ∙ sym (length-map (vertexNumbers (m .vertices)) millimetres) in
+      λ i. record { vertices = vertices-are i; normals = normals-are i; indices = indices-are i; spans = spans-are i; account = account-is i; log = log-is i; millimetres = millimetres-are i }

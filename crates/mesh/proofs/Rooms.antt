@@ -9,13 +9,14 @@ use lib.ListN.{length}
 use lib.Dec.{ltb}
 use borrow.Author.Tests.{le-ltb, ltb-false}
 use Rattle.refusal.specs.declared.Refusal.{Refusal}
+use Rattle.refusal.specs.declared.Refusal.the-variants.{ShortVertices, ShortIndices, ShortRecords, ShortMillimetres}
 use Rattle.lid.specs.Log.{entryWidth}
 use Rattle.mesh.specs.Mesh.{spanWidth, accountWidth}
 use Rattle.mesh.specs.declared.Room.{Room}
 use Rattle.mesh.specs.declared.Room.the-variants.{Enough, Short}
 use Rattle.mesh.specs.PerBuffer.{Buffer, PerBuffer, each, at, Counts, numbersFor, Buffers}
 use Rattle.mesh.specs.Contract.PerBuffer.{FitCounts}
-use Rattle.mesh.specs.PerBuffer.Buffer.{vertices, normals, indices, spans, account, log}
+use Rattle.mesh.specs.PerBuffer.Buffer.{vertices, normals, indices, spans, account, log, millimetres}
 use Rattle.mesh.specs.Operations.{noCounts, countsOf, tooShort}
 use Rattle.mesh.specs.Demand3.{LongEnough}
 
@@ -28,23 +29,24 @@ at-each f indices = refl
 at-each f spans = refl
 at-each f account = refl
 at-each f log = refl
+at-each f millimetres = refl
 
 -- what so many vertices, triangles, spans, objects and log entries take fits u32
 pub numbers-fit : (v t s n e : ℕ) → 3 * v < 2 ^ 32 → 3 * t < 2 ^ 32 → spanWidth * s < 2 ^ 32 → accountWidth * n < 2 ^ 32 → entryWidth * e < 2 ^ 32
     → FitCounts (numbersFor v t s n e)
-numbers-fit v t s n e hv ht hs hn he = record { vertices = hv; normals = hv; indices = ht; spans = hs; account = hn; log = he }
+numbers-fit v t s n e hv ht hs hn he = record { vertices = hv; normals = hv; indices = ht; spans = hs; account = hn; log = he; millimetres = hv }
 
 -- fewer take no more
 pub numbers-within : {v t s n e v′ t′ s′ n′ e′ : ℕ} → v ≤ v′ → t ≤ t′ → s ≤ s′ → n ≤ n′ → e ≤ e′ → LongEnough (numbersFor v′ t′ s′ n′ e′) (numbersFor v t s n e)
 numbers-within v t s n e =
-    record { vertices = omega arith; normals = omega arith; indices = omega arith; spans = omega arith; account = omega arith; log = omega arith }
+    record { vertices = omega arith; normals = omega arith; indices = omega arith; spans = omega arith; account = omega arith; log = omega arith; millimetres = omega arith }
 
 pub longer : {a b c : Counts} → LongEnough a b → LongEnough b c → LongEnough a c
 longer p q = each (λ k. le-trans (at q k) (at p k))
 
 pub none-needed : (has : Counts) → LongEnough has noCounts
 unfolding noCounts
-none-needed has = record { vertices = zero-le; normals = zero-le; indices = zero-le; spans = zero-le; account = zero-le; log = zero-le }
+none-needed has = record { vertices = zero-le; normals = zero-le; indices = zero-le; spans = zero-le; account = zero-le; log = zero-le; millimetres = zero-le }
 
 -- by the lengths of what they hold
 pub lengths-fit : (w b : Buffers) → LongEnough (countsOf b) (countsOf w) → (k : Buffer) → length (at w k) ≤ length (at b k)
@@ -57,7 +59,7 @@ pub long-enough : (has needs : Counts) → LongEnough has needs → tooShort has
 unfolding tooShort
 long-enough has needs l =
     let fits : PerBuffer (λ k. ltb (at has k) (at needs k) ≡ false) = each (λ k. le-ltb (at has k) (at needs k) (at l k)) in
-    rw (fits .vertices, fits .normals, fits .indices, fits .spans, fits .account, fits .log)
+    rw (fits .vertices, fits .normals, fits .indices, fits .spans, fits .account, fits .log, fits .millimetres)
 
 abbrev isEnough : Room → Bool
 isEnough Enough = true
@@ -82,6 +84,7 @@ enough-room has needs q =
     let f = enough (ltb (has .vertices) (needs .vertices) || ltb (has .normals) (needs .normals)) _ _ q in
     let g = enough (ltb (has .indices) (needs .indices)) _ _ (f .1) in
     let h = enough (ltb (has .spans) (needs .spans) || ltb (has .account) (needs .account) || ltb (has .log) (needs .log)) _ _ (g .1) in
+    let j = enough (ltb (has .millimetres) (needs .millimetres)) _ _ (h .1) in
     let v = either-false _ _ (f .0) in
     let l = either-false (ltb (has .spans) (needs .spans) || ltb (has .account) (needs .account)) _ (h .0) in
     let m = either-false _ _ (l .0) in
@@ -92,4 +95,17 @@ enough-room has needs q =
       spans = ltb-false _ _ (m .0);
       account = ltb-false _ _ (m .1);
       log = ltb-false _ _ (l .1);
+      millimetres = ltb-false _ _ (j .0);
     }
+
+-- ---- the order of the rows, where no buffer has any room
+
+abbrev needing : ℕ → ℕ → ℕ → ℕ → Counts
+needing v i r m = record { vertices = v; normals = v; indices = i; spans = r; account = r; log = r; millimetres = m }
+
+-- the first row is given, whatever else is too short
+pub rows-in-order : (i r m : ℕ)
+    → (tooShort noCounts (needing 1 i r m) ≡ Short ShortVertices) × (tooShort noCounts (needing 0 1 r m) ≡ Short ShortIndices)
+    × (tooShort noCounts (needing 0 0 1 m) ≡ Short ShortRecords) × (tooShort noCounts (needing 0 0 0 1) ≡ Short ShortMillimetres)
+unfolding tooShort noCounts
+rows-in-order i r m = (refl, refl, refl, refl)

@@ -104,7 +104,7 @@ pub record Demand3Of (limit : Float) (os : List Object) (mesh : Buffers) (valida
 unfoldable pub prefixes : Counts → Buffers → Buffers
 prefixes c b = each (λ k. take (at c k) (at b k))
 
--- each of the six buffers has room for what is measured
+-- each of the seven buffers has room for what is measured
 abbrev pub LongEnough : Counts → Counts → Type 0
 LongEnough has needs = PerBuffer (λ k. at needs k ≤ at has k)
 

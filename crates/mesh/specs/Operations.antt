@@ -2,16 +2,17 @@
 -- A call is answered by a number (0 where it is not refused), the object named and the counts.
 use Prim.Native.Nat.{ℕ}
 use mathlib.Core.Bool.{_||_, cond}
-use mathlib.Core.List.{List}
+use mathlib.Core.List.{List, map}
 use lib.ListN.{length}
 use lib.Dec.{ltb}
 use lib.Ieee.{Float}
 use Rattle.lists.specs.Loops.{over}
+use Rattle.millimetre.specs.Millimetres.{millimetres}
 use Rattle.float.specs.Number.{minArea}
 use Rattle.coords.specs.Buffers.{vertexNumbers, normalNumbers}
 use Rattle.object.specs.Object.{Object}
 use Rattle.refusal.specs.declared.Refusal.{Refusal}
-use Rattle.refusal.specs.declared.Refusal.the-variants.{ShortVertices, ShortIndices, ShortRecords}
+use Rattle.refusal.specs.declared.Refusal.the-variants.{ShortVertices, ShortIndices, ShortRecords, ShortMillimetres}
 use Rattle.refusal.specs.Rows.{numberOf}
 use Rattle.scene.specs.Scene.{Scene, refused, accepted, scene}
 use Rattle.lid.specs.Log.{Entry, logNumbers}
@@ -31,9 +32,11 @@ noCounts = each (λ k. 0)
 unfoldable pub refusedWith : Refusal → ℕ → Answer
 refusedWith f object = record { number = numberOf f; object = object; counts = noCounts }
 
--- a mesh, accounts and a log as numbers
+-- a mesh, accounts and a log as numbers, and the vertices in whole millimetres
 abbrev pub written : Mesh → List Account → List Entry → Buffers
-written m accounts log = lent (vertexNumbers (m .vertices)) (normalNumbers (m .normals)) (m .indices) (spanNumbers (m .spans)) (accountNumbers accounts) (logNumbers log)
+written m accounts log =
+    lent (vertexNumbers (m .vertices)) (normalNumbers (m .normals)) (m .indices) (spanNumbers (m .spans)) (accountNumbers accounts) (logNumbers log)
+    (map millimetres (vertexNumbers (m .vertices)))
 
 -- all that is written for a list of objects
 unfoldable pub output : Float → List Object → Buffers
@@ -62,7 +65,8 @@ tooShort has needs =
     cond (ltb (has .vertices) (needs .vertices) || ltb (has .normals) (needs .normals)) (Short ShortVertices)
     (cond (ltb (has .indices) (needs .indices)) (Short ShortIndices)
     (cond (ltb (has .spans) (needs .spans) || ltb (has .account) (needs .account) || ltb (has .log) (needs .log)) (Short ShortRecords)
-    Enough))
+    (cond (ltb (has .millimetres) (needs .millimetres)) (Short ShortMillimetres)
+    Enough)))
 
 -- the buffers with what is written over their first numbers
 unfoldable pub overlay : Buffers → Buffers → Buffers

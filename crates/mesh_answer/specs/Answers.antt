@@ -3,6 +3,7 @@ use mathlib.Core.Path.{_≡_}
 use Prim.Native.Nat.{ℕ}
 use mathlib.Core.List.{List}
 use lib.ListN.{take}
+use lib.IntN.{ℤ}
 use lib.Ieee.{Float}
 use Rattle.lists.specs.Slices.{Slice}
 use Rattle.validate.specs.declared.Validation.{Validation}
@@ -16,7 +17,7 @@ use Rattle.mesh.specs.PerBuffer.{Counts as Numbers, Buffers, entering, leaving}
 use Rattle.mesh.specs.Operations.{Answer, Built, refusedWith, build}
 
 abbrev pub countsFrom : Counted → Numbers
-countsFrom c = record { vertices = c .vertices; normals = c .normals; indices = c .indices; spans = c .spans; account = c .account; log = c .log }
+countsFrom c = record { vertices = c .vertices; normals = c .normals; indices = c .indices; spans = c .spans; account = c .account; log = c .log; millimetres = c .millimetres }
 
 -- the answer that C gets
 abbrev pub answerFrom : CAnswer → Answer
@@ -35,8 +36,8 @@ abbrev pub builtWith : Answered → Buffers → Built
 builtWith r b = record { answer = answerOf r; buffers = b }
 
 -- the same of the lent slices, by what they hold as the call begins and as it ends
-abbrev pub Builds : (Buffers → Built) → Answered → Slice Float → Slice Float → Slice ℕ → Slice ℕ → Slice ℕ → Slice ℕ → Type 0
-Builds f r vs ns is ss accounts ls = builtWith r (leaving vs ns is ss accounts ls) ≡ f (entering vs ns is ss accounts ls)
+abbrev pub Builds : (Buffers → Built) → Answered → Slice Float → Slice Float → Slice ℕ → Slice ℕ → Slice ℕ → Slice ℕ → Slice ℤ → Type 0
+Builds f r vs ns is ss accounts ls ms = builtWith r (leaving vs ns is ss accounts ls ms) ≡ f (entering vs ns is ss accounts ls ms)
 
 -- Build, and then Validate on the measured first numbers of the buffers: nothing of them where Build is refused
 pub record BuiltAndJudged : Type 0 where

@@ -20,6 +20,7 @@ pub struct Counted {
     pub spans: u32,
     pub account: u32,
     pub log: u32,
+    pub millimetres: u32,
 }
 
 // How many numbers each lent buffer holds.
@@ -30,6 +31,7 @@ pub struct Lengths {
     pub spans: usize,
     pub account: usize,
     pub log: usize,
+    pub millimetres: usize,
 }
 
 // What Measure and Build answer: by which row the call is refused and the object named, or the counts.
@@ -70,6 +72,7 @@ pub fn numbers_for(vertices: u32, triangles: u32, spans: u32, objects: u32, entr
         spans: (SPAN_WIDTH as u32) * spans,
         account: (ACCOUNT_WIDTH as u32) * objects,
         log: (ENTRY_WIDTH as u32) * entries,
+        millimetres: 3 * vertices,
     }
 }
 
@@ -84,6 +87,7 @@ impl Counted {
             spans: 0,
             account: 0,
             log: 0,
+            millimetres: 0,
         }
     }
 }

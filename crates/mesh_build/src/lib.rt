@@ -14,7 +14,7 @@ ghost use Rattle.mesh_answer.specs.Contract.Answers.{lengthsFrom};
 ghost use Rattle.mesh_bound.specs.Most.{numbersOf};
 ghost use Rattle.mesh_bound.specs.Contract.Groups.{FewOfBoth};
 ghost use Rattle.mesh_build.specs.Contract.Plan.{PlanBy, PlanHolds};
-use crate::pass::write_objects;
+use crate::pass::write_all;
 use float::MIN_AREA;
 use mesh::Room;
 use mesh_answer::Answered;
@@ -93,8 +93,9 @@ fn build_scene(
     spans: &mut [u32],
     account: &mut [u32],
     log: &mut [u32],
+    millimetres: &mut [i64],
 ) -> Answered
-    ensures { λ r. ⌜ Builds (buildScene limit (scene (now (s .entry)))) r vertices normals indices spans account log ⌝ }
+    ensures { λ r. ⌜ Builds (buildScene limit (scene (now (s .entry)))) r vertices normals indices spans account log millimetres ⌝ }
 {
     let has = Lengths {
         vertices: vertices.len(),
@@ -103,10 +104,11 @@ fn build_scene(
         spans: spans.len(),
         account: account.len(),
         log: log.len(),
+        millimetres: millimetres.len(),
     };
     match plan_scene(s, limit, has) {
         Plan::Refuse(f, object) => Answered::Refused(f, object),
-        Plan::Write(n) => Answered::Counts(write_objects(
+        Plan::Write(n) => Answered::Counts(write_all(
             s,
             n,
             limit,
@@ -116,6 +118,7 @@ fn build_scene(
             spans,
             account,
             log,
+            millimetres,
         )),
     }
 }
@@ -128,8 +131,19 @@ pub fn build(
     spans: &mut [u32],
     account: &mut [u32],
     log: &mut [u32],
+    millimetres: &mut [i64],
 ) -> Answered
-    ensures { λ r. ⌜ Builds (build (now (s .entry))) r vertices normals indices spans account log ⌝ }
+    ensures { λ r. ⌜ Builds (build (now (s .entry))) r vertices normals indices spans account log millimetres ⌝ }
 {
-    build_scene(s, MIN_AREA, vertices, normals, indices, spans, account, log)
+    build_scene(
+        s,
+        MIN_AREA,
+        vertices,
+        normals,
+        indices,
+        spans,
+        account,
+        log,
+        millimetres,
+    )
 }

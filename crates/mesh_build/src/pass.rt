@@ -1,11 +1,18 @@
 // The pass over the records of an accepted scene: each object is drawn from its record behind those
-// before it, and its span and account are stored.
+// before it, and its span and account are stored. Once all are written, their vertices are stored in
+// millimetres too.
 ghost use mathlib.Core.Path.{_≡_};
 ghost use Rattle.scene.specs.declared.scenes.Checked.the-variants.{Accepted};
 ghost use Rattle.scene.specs.Scene.{scene};
 ghost use Rattle.scene.specs.Contract.Answers.{checkedOf};
+ghost use Rattle.mesh.specs.PerBuffer.{lent};
+ghost use Rattle.mesh.specs.Operations.{countsOf, buildScene};
+ghost use Rattle.mesh_answer.specs.declared.Answered.the-variants.{Counts};
+ghost use Rattle.mesh_answer.specs.Answers.{Builds};
 ghost use Rattle.mesh_progress.specs.Contract.Pass.{drawnEntering, drawnLeaving, beginning, CanAdd, AddedObject, CanAddAll, AddedScene};
 ghost use Rattle.mesh_progress.specs.Contract.Wrote.{WroteScene};
+ghost use Rattle.mesh_build.specs.declared.Plan.the-variants.{Write};
+ghost use Rattle.mesh_build.specs.Contract.Plan.{PlanHolds};
 use mesh_answer::Counted;
 use mesh_progress::BEGINNING;
 use mesh_progress::Progress;
@@ -14,6 +21,7 @@ use mesh_progress::count_numbers;
 use mesh_progress::records::put_account;
 use mesh_progress::records::put_span;
 use mesh_progress::starts_in;
+use millimetre::fill;
 
 // The object of the next record, drawn into the tails of the buffers.
 fn object_at(
@@ -101,4 +109,27 @@ pub fn write_objects(
     ensures { λ r. ⌜ WroteScene limit (now (s .entry)) r (drawnEntering vs ns is spans account log) (drawnLeaving vs ns is spans account log) ⌝ }
 {
     count_numbers(write_behind(s, n, limit, BEGINNING, vs, ns, is, spans, account, log))
+}
+
+// All n objects written into buffers that have room for them, and the millimetres of their vertices.
+pub fn write_all(
+    s: &[u8],
+    n: u32,
+    limit: f32,
+    vertices: &mut [f32],
+    normals: &mut [f32],
+    indices: &mut [u32],
+    spans: &mut [u32],
+    account: &mut [u32],
+    log: &mut [u32],
+    millimetres: &mut [i64],
+) -> Counted
+    requires { ⌜ PlanHolds limit (now s)
+        (countsOf (lent (now vertices) (now normals) (now indices) (now spans) (now account) (now log) (now millimetres))) (Write n) ⌝ }
+    ensures { λ r. ⌜ Builds (buildScene limit (scene (now (s .entry)))) (Counts r) vertices normals indices spans account log millimetres ⌝ }
+{
+    let c = write_objects(s, n, limit, vertices, normals, indices, spans, account, log);
+    let v = c.vertices as usize;
+    fill(&vertices[..v], millimetres);
+    c
 }

@@ -19,15 +19,25 @@ pub fn build_and_validate(
     spans: &mut [u32],
     account: &mut [u32],
     log: &mut [u32],
+    millimetres: &mut [i64],
 ) -> JudgedBuild
-    ensures same { λ r. ⌜ judgedWith r (leaving vertices normals indices spans account log)
-        ≡ buildAndValidate (now (s .entry)) (entering vertices normals indices spans account log) ⌝ }
+    ensures same { λ r. ⌜ judgedWith r (leaving vertices normals indices spans account log millimetres)
+        ≡ buildAndValidate (now (s .entry)) (entering vertices normals indices spans account log millimetres) ⌝ }
     ensures demand3 { λ r. ⌜ ((os : List Object)
         → scene (now (s .entry)) ≡ accepted os
-        → LongEnough (countsOf (entering vertices normals indices spans account log)) (measure (now (s .entry)) .counts)
-        → Demand3Of minArea os (prefixes (answerOf (r .answer) .counts) (leaving vertices normals indices spans account log)) (r .validation)) ⌝ }
+        → LongEnough (countsOf (entering vertices normals indices spans account log millimetres)) (measure (now (s .entry)) .counts)
+        → Demand3Of minArea os (prefixes (answerOf (r .answer) .counts) (leaving vertices normals indices spans account log millimetres)) (r .validation)) ⌝ }
 {
-    let answer = build(s, vertices, normals, indices, spans, account, log);
+    let answer = build(
+        s,
+        vertices,
+        normals,
+        indices,
+        spans,
+        account,
+        log,
+        millimetres,
+    );
     let m = answer.mesh_lengths();
     let v = m.vertices;
     let i = m.indices;

@@ -43,5 +43,8 @@ pub fn room(has: Lengths, c: Counted) -> Room
     if short(has.spans, c.spans) | short(has.account, c.account) | short(has.log, c.log) {
         return Room::Short(Refusal::ShortRecords);
     }
+    if short(has.millimetres, c.millimetres) {
+        return Room::Short(Refusal::ShortMillimetres);
+    }
     Room::Enough
 }

@@ -32,12 +32,22 @@ pub extern "C" fn object_mesh_build(
     spans: &mut [u32],
     account: &mut [u32],
     log: &mut [u32],
+    millimetres: &mut [i64],
 ) -> Answer
-    ensures answer { λ r. ⌜ answerFrom r ≡ build (now (scene .entry)) (entering vertices normals indices spans account log) .answer ⌝ }
-    ensures written { λ r. ⌜ leaving vertices normals indices spans account log
-        ≡ build (now (scene .entry)) (entering vertices normals indices spans account log) .buffers ⌝ }
+    ensures answer { λ r. ⌜ answerFrom r ≡ build (now (scene .entry)) (entering vertices normals indices spans account log millimetres) .answer ⌝ }
+    ensures written { λ r. ⌜ leaving vertices normals indices spans account log millimetres
+        ≡ build (now (scene .entry)) (entering vertices normals indices spans account log millimetres) .buffers ⌝ }
 {
-    mesh_build::build(scene, vertices, normals, indices, spans, account, log).numbers()
+    mesh_build::build(
+        scene,
+        vertices,
+        normals,
+        indices,
+        spans,
+        account,
+        log,
+        millimetres,
+    ).numbers()
 }
 
 #[no_mangle]

@@ -5,6 +5,7 @@ use Prim.Native.Nat.{ℕ, _*_, _/_, _≤_}
 use native.Mathlib.Nat.{le-trans}
 use native.Mathlib.Omega.{arith}
 use lib.ListN.{length, take, drop, replicate, length-replicate}
+use lib.IntN.{pos}
 use Rattle.lists.specs.Loops.{over}
 use Rattle.lists.proofs.Buffers.{take-over}
 use Rattle.float.specs.Number.{zerof, minArea}
@@ -78,7 +79,7 @@ numbers-up os b m e =
 
 -- the working buffers, as they are made, are the room for 4,096 bytes
 pub room-is : (account : List ℕ) → length account ≡ 1488
-    → countsOf (lent (replicate 24576 zerof) (replicate 24576 zerof) (replicate 36864 0) (replicate 1860 0) account (replicate 32768 0)) ≡ roomFor 4096
+    → countsOf (lent (replicate 24576 zerof) (replicate 24576 zerof) (replicate 36864 0) (replicate 1860 0) account (replicate 32768 0) (replicate 24576 (pos 0))) ≡ roomFor 4096
 unfolding countsOf roomFor objectsMost
 room-is account h = λ i. record {
   vertices = length-replicate 24576 zerof i;
@@ -87,6 +88,7 @@ room-is account h = λ i. record {
   spans = length-replicate {A = ℕ} 1860 0 i;
   account = h i;
   log = length-replicate {A = ℕ} 32768 0 i;
+  millimetres = length-replicate 24576 (pos 0) i;
 }
 
 module _ (s : List ℕ) (b : Buffers) (l : length s ≤ 4096) (room : countsOf b ≡ roomFor 4096) where

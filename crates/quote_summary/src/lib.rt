@@ -48,6 +48,7 @@ pub fn sum_up(s: &[u8], account: &mut Account) -> Summary
     let mut indices = [0u32; 36864];
     let mut spans = [0u32; 1860];
     let mut log = [0u32; 32768];
+    let mut millimetres = [0i64; 24576];
     let r = build_and_validate(
         s,
         &mut vertices,
@@ -56,6 +57,7 @@ pub fn sum_up(s: &[u8], account: &mut Account) -> Summary
         &mut spans,
         account,
         &mut log,
+        &mut millimetres,
     );
     let answer = r.answer;
     let validation = r.validation;

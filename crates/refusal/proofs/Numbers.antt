@@ -2,7 +2,7 @@
 use Prim.Native.Nat.{ℕ, _≤_, _<_}
 use native.Mathlib.Omega.{arith}
 use Rattle.refusal.specs.declared.Refusal.{Refusal}
-use Rattle.refusal.specs.declared.Refusal.the-variants.{Length, Trailer, Start, Past, Kind, Counts, Numbers, ShortVertices, ShortIndices, ShortRecords, PartialVertex}
+use Rattle.refusal.specs.declared.Refusal.the-variants.{Length, Trailer, Start, Past, Kind, Counts, Numbers, ShortVertices, ShortIndices, ShortRecords, PartialVertex, ShortMillimetres}
 use Rattle.refusal.specs.Rows.{numberOf}
 
 pub number-range : (r : Refusal) → (1 ≤ numberOf r) × (numberOf r < 100)
@@ -17,3 +17,4 @@ number-range ShortVertices = (omega arith, omega arith)
 number-range ShortIndices = (omega arith, omega arith)
 number-range ShortRecords = (omega arith, omega arith)
 number-range PartialVertex = (omega arith, omega arith)
+number-range ShortMillimetres = (omega arith, omega arith)

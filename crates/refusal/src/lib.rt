@@ -1,4 +1,4 @@
-// The refusals of every call: document 01, section 2. A further one is a variant here, a line in each
+// The refusals of every call: document 01, section 2, and the change requests of document 02. A further one is a variant here, a line in each
 // list of numbers, and a line of the law about them.
 ghost use mathlib.Core.Path.{_≡_};
 ghost use Rattle.refusal.specs.Rows.{numberOf};
@@ -23,6 +23,7 @@ pub enum Refusal {
     ShortRecords,
     // The vertices' numbers are no whole threes.
     PartialVertex,
+    ShortMillimetres,
 }
 
 pub fn refusal_number(f: Refusal) -> u32
@@ -40,5 +41,6 @@ pub fn refusal_number(f: Refusal) -> u32
         Refusal::ShortIndices => 9,
         Refusal::ShortRecords => 10,
         Refusal::PartialVertex => 11,
+        Refusal::ShortMillimetres => 12,
     }
 }

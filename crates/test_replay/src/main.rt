@@ -1,5 +1,5 @@
 // Reads scenes from the file `scenes` and prints what Build and Validate answer to each, one to a
-// line: the refusal and the object named, or the six counts of numbers, the FNV-1a 64 hash of what
+// line: the refusal and the object named, or the seven counts of numbers, the FNV-1a 64 hash of what
 // was written to each buffer, and the verdict. A scene is its size and its bytes, sizes in words of
 // four bytes, the lowest first. compare/replay.py makes the file and the expected lines.
 ghost use mathlib.Core.Path.{_≡_};
@@ -55,6 +55,27 @@ fn with_word(h: u64, w: u32) -> u64 {
     with_byte(c, w / 16777216)
 }
 
+// The hash with the eight bytes of a 64-bit word, the lowest first.
+fn with_long(h: u64, w: u64) -> u64 {
+    let a = times_prime(h ^ w % 256);
+    let b = times_prime(a ^ w / 0x100 % 256);
+    let c = times_prime(b ^ w / 0x1_0000 % 256);
+    let d = times_prime(c ^ w / 0x100_0000 % 256);
+    let e = times_prime(d ^ w / 0x1_0000_0000 % 256);
+    let f = times_prime(e ^ w / 0x100_0000_0000 % 256);
+    let g = times_prime(f ^ w / 0x1_0000_0000_0000 % 256);
+    times_prime(g ^ w / 0x100_0000_0000_0000)
+}
+
+// The bits of x in two's complement: below 0, those of -(x + 1) turned.
+fn long_bits(x: i64) -> u64 {
+    if x >= 0 {
+        x as u64
+    } else {
+        ((0 - (x + 1)) as u64) ^ 0xffff_ffff_ffff_ffff
+    }
+}
+
 fn bits(x: f32) -> u32 {
     if x != x {
         return 0x7fc0_0000;
@@ -84,6 +105,16 @@ fn hash_numbers(s: &[u32]) -> u64 {
     h
 }
 
+fn hash_longs(s: &[i64]) -> u64 {
+    let mut h = START;
+    let mut k = 0;
+    while k < s.len() {
+        h = with_long(h, long_bits(s[k]));
+        k = k + 1;
+    }
+    h
+}
+
 // The hash of the first n.
 fn write_floats(s: &[f32], n: usize) {
     if n <= s.len() {
@@ -94,6 +125,12 @@ fn write_floats(s: &[f32], n: usize) {
 fn write_numbers(s: &[u32], n: usize) {
     if n <= s.len() {
         write_hash(hash_numbers(&s[..n]));
+    }
+}
+
+fn write_longs(s: &[i64], n: usize) {
+    if n <= s.len() {
+        write_hash(hash_longs(&s[..n]));
     }
 }
 
@@ -130,6 +167,12 @@ fn floats() -> [f32; 24576]
     [0.0; 24576]
 }
 
+fn longs() -> [i64; 24576]
+    ensures { λ r. ⌜ 24576 ≡ length r ⌝ }
+{
+    [0; 24576]
+}
+
 fn numbers() -> [u32; 36864]
     ensures { λ r. ⌜ 36864 ≡ length r ⌝ }
 {
@@ -144,6 +187,7 @@ fn write_counts(c: Counted) {
     write_number(c.spans);
     write_number(c.account);
     write_number(c.log);
+    write_number(c.millimetres);
 }
 
 fn write_mesh(c: Counted, vertices: &[f32], normals: &[f32], indices: &[u32]) {
@@ -166,6 +210,7 @@ fn replay(s: &[u8]) {
     let mut spans = numbers();
     let mut account = numbers();
     let mut log = numbers();
+    let mut millimetres = longs();
     let r = mesh_build_and_validate::build_and_validate(
         s,
         &mut vertices,
@@ -174,6 +219,7 @@ fn replay(s: &[u8]) {
         &mut spans,
         &mut account,
         &mut log,
+        &mut millimetres,
     );
     let answer = r.answer;
     let validation = r.validation;
@@ -186,6 +232,7 @@ fn replay(s: &[u8]) {
     write_counts(c);
     write_mesh(c, &vertices, &normals, &indices);
     write_records(c, &spans, &account, &log);
+    write_longs(&millimetres, place(c.millimetres));
     write_verdict(validation)
 }
 

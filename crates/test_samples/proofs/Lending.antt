@@ -18,8 +18,8 @@ use Rattle.test_samples.proofs.Computes.{all}
 bytes : List ℕ
 bytes = sceneBytes (outlineBytes 3 (upright 0 0 3 ∷ upright 4 0 3 ∷ []) [] ∷ [])
 
-counts : ℕ → ℕ → ℕ → ℕ → ℕ → ℕ → Counts
-counts v n i s a l = record { vertices = v; normals = n; indices = i; spans = s; account = a; log = l }
+counts : ℕ → ℕ → ℕ → ℕ → ℕ → ℕ → ℕ → Counts
+counts v n i s a l m = record { vertices = v; normals = n; indices = i; spans = s; account = a; log = l; millimetres = m }
 
 -- buffers of these sizes, which hold ones and sevens
 full : Counts → Buffers
@@ -36,16 +36,20 @@ back number c =
 
 pub buffer-tests : List Bool
 buffer-tests =
-    equal (build bytes (full (counts 12 12 6 5 4 0)) .buffers) (output minArea (objectsIn (scene bytes)))
-    ∷ same (drop 12 (wordsOf (build bytes (full (counts 13 12 7 5 6 2)) .buffers) .vertices)) (0x3f800000 ∷ [])
-    ∷ same (drop 4 (build bytes (full (counts 13 12 7 5 6 2)) .buffers .account)) (7 ∷ 7 ∷ [])
-    ∷ same (build bytes (full (counts 13 12 7 5 6 2)) .buffers .log) (7 ∷ 7 ∷ [])
-    ∷ same (build bytes (full (counts 13 12 7 5 6 2)) .buffers .spans) (7 ∷ 0 ∷ 4 ∷ 0 ∷ 6 ∷ [])
-    ∷ back 8 (counts 11 12 6 5 4 0)
-    ∷ back 8 (counts 12 11 5 4 3 0)
-    ∷ back 9 (counts 12 12 5 4 3 0)
-    ∷ back 10 (counts 12 12 6 4 4 0)
-    ∷ back 10 (counts 12 12 6 5 3 0)
+    equal (build bytes (full (counts 12 12 6 5 4 0 12)) .buffers) (output minArea (objectsIn (scene bytes)))
+    ∷ same (drop 12 (wordsOf (build bytes (full (counts 13 12 7 5 6 2 13)) .buffers) .vertices)) (0x3f800000 ∷ [])
+    ∷ same (drop 4 (build bytes (full (counts 13 12 7 5 6 2 13)) .buffers .account)) (7 ∷ 7 ∷ [])
+    ∷ same (build bytes (full (counts 13 12 7 5 6 2 13)) .buffers .log) (7 ∷ 7 ∷ [])
+    ∷ same (build bytes (full (counts 13 12 7 5 6 2 13)) .buffers .spans) (7 ∷ 0 ∷ 4 ∷ 0 ∷ 6 ∷ [])
+    ∷ same (wordsOf (build bytes (full (counts 13 12 7 5 6 2 13)) .buffers) .millimetres)
+    (0 ∷ 0 ∷ 0 ∷ 4000 ∷ 0 ∷ 0 ∷ 4000 ∷ 0 ∷ 3000 ∷ 0 ∷ 0 ∷ 3000 ∷ 7 ∷ [])
+    ∷ back 8 (counts 11 12 6 5 4 0 12)
+    ∷ back 8 (counts 12 11 5 4 3 0 12)
+    ∷ back 9 (counts 12 12 5 4 3 0 12)
+    ∷ back 10 (counts 12 12 6 4 4 0 12)
+    ∷ back 10 (counts 12 12 6 5 3 0 12)
+    ∷ back 10 (counts 12 12 6 5 3 0 11)
+    ∷ back 12 (counts 12 12 6 5 4 0 11)
     ∷ eqb (validationNumbers (validate (onef ∷ onef ∷ []) []) .refusal) 11
     ∷ []
 

@@ -1,5 +1,5 @@
 -- How a stored scene and the answers of the Rust are written and compared, and the scenes that are refused.
--- A list of n bytes or of n 32-bit words is written as one hexadecimal number, the first one foremost; an f32 is its bits.
+-- A list of n bytes, of n 32-bit words or of n 64-bit words is written as one hexadecimal number, the first one foremost; an f32 is its bits, and so is an i64.
 use Prim.Native.Nat.{ℕ, zero, suc, _/_, _%_, _^_}
 use mathlib.Core.Bool.{Bool, _&&_}
 use mathlib.Core.List.{List, [], _∷_}
@@ -22,6 +22,9 @@ bytes n x = digits 256 n x
 abbrev pub words : ℕ → ℕ → List ℕ
 words n x = digits 4294967296 n x
 
+abbrev pub longs : ℕ → ℕ → List ℕ
+longs n x = digits 18446744073709551616 n x
+
 -- a scene; the number and the object of Build's answer; Validate's verdict; and the words of each buffer
 pub record Example : Type 0 where
   pub scene : List ℕ
@@ -30,8 +33,9 @@ pub record Example : Type 0 where
   pub verdict : ℕ
   pub words : PerBuffer (λ k. List ℕ)
 
-abbrev pub builtAs : List ℕ → ℕ → List ℕ → List ℕ → List ℕ → List ℕ → List ℕ → List ℕ → Example
-builtAs s v a b c d e f = record { scene = s; number = 0; object = 0; verdict = v; words = record { vertices = a; normals = b; indices = c; spans = d; account = e; log = f } }
+abbrev pub builtAs : List ℕ → ℕ → List ℕ → List ℕ → List ℕ → List ℕ → List ℕ → List ℕ → List ℕ → Example
+builtAs s v a b c d e f g =
+    record { scene = s; number = 0; object = 0; verdict = v; words = record { vertices = a; normals = b; indices = c; spans = d; account = e; log = f; millimetres = g } }
 
 -- refused: nothing is built, and the empty mesh is Empty
 abbrev pub refusedAs : List ℕ → ℕ → ℕ → Example

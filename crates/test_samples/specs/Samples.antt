@@ -5,12 +5,14 @@ use mathlib.Core.List.{List, [], _∷_, _++_, map}
 use lib.ListN.{length, replicate}
 use lib.Dec.{eqb}
 use lib.IntN.{ℤ, pos}
+use mir.Syntax.{w64}
+use mir.Val.{ofZ}
 use lib.Ieee.{Float, binary32, toBits, ofInt}
 use Rattle.lists.specs.Loops.{join}
 use Rattle.object.specs.Object.{Object}
 use Rattle.scene.specs.Scene.{Scene, refused, accepted}
 use Rattle.mesh.specs.PerBuffer.{Buffer, Element, PerBuffer, each, at, Counts, Buffers, lent}
-use Rattle.mesh.specs.PerBuffer.Buffer.{vertices, normals, indices, spans, account, log}
+use Rattle.mesh.specs.PerBuffer.Buffer.{vertices, normals, indices, spans, account, log, millimetres}
 
 -- ---- scenes as bytes
 
@@ -85,8 +87,9 @@ objectsIn (accepted os) = os
 unfoldable pub filled : Float → ℕ → Counts → Buffers
 filled x n c =
     lent (replicate (c .vertices) x) (replicate (c .normals) x) (replicate (c .indices) n) (replicate (c .spans) n) (replicate (c .account) n) (replicate (c .log) n)
+    (replicate (c .millimetres) (pos n))
 
--- what a buffer holds, in words: a float's bits
+-- what a buffer holds, in words: a float's bits, and an i64's
 abbrev pub word : (k : Buffer) → Element k → ℕ
 word vertices x = toBits binary32 x
 word normals x = toBits binary32 x
@@ -94,12 +97,13 @@ word indices n = n
 word spans n = n
 word account n = n
 word log n = n
+word millimetres z = ofZ w64 z
 
 unfoldable pub wordsOf : Buffers → PerBuffer (λ k. List ℕ)
 wordsOf b = each (λ k. map (word k) (at b k))
 
 unfoldable pub atAll : PerBuffer (λ k. Bool) → Bool
-atAll x = x .vertices && x .normals && x .indices && x .spans && x .account && x .log
+atAll x = x .vertices && x .normals && x .indices && x .spans && x .account && x .log && x .millimetres
 
 unfoldable pub sameWords : PerBuffer (λ k. List ℕ) → PerBuffer (λ k. List ℕ) → Bool
 sameWords a b = atAll (each (λ k. same (at a k) (at b k)))

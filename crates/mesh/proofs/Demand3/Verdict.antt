@@ -38,7 +38,7 @@ abbrev pub VerdictHolds : Float → List Object → Type 0
 VerdictHolds limit os =
     validateAt limit (output limit os .vertices) (output limit os .indices) ≡ Judged (cond (eqb (sumOf (λ (o : Object). keptBy limit (o .shape)) os) 0) Empty Ok)
 
-module _ (limit : Float) (above : Above limit) where
+module _ (limit : Float) where
   -- ---- the mesh of a list of objects
   mesh-written : (before : List Point) (i : ℕ) (os : List Object) → Each (λ (o : Object). NearShape (o .shape)) os
       → Written limit before (meshFrom limit (size before) i os .vertices) (meshFrom limit (size before) i os .indices) (sumOf (λ (o : Object). keptBy limit (o .shape)) os)
@@ -51,6 +51,11 @@ module _ (limit : Float) (above : Above limit) where
       (subst (λ (k : ℕ). Written limit (before ++ p .vertices) (meshFrom limit k j os .vertices) (meshFrom limit k j os .indices) (sumOf (λ (o : Object). keptBy limit (o .shape)) os)) (length-append before (p .vertices))
       (mesh-written (before ++ p .vertices) j os (n .1)))
 
+  pub mesh-finite : (os : List Object) → Each (λ (o : Object). NearShape (o .shape)) os → Each (NearP 6 24) (meshOf limit os .vertices)
+  unfolding meshOf
+  mesh-finite os n = mesh-written [] 0 os n .near
+
+module _ (limit : Float) (above : Above limit) where
   none-of-three : (k n : ℕ) (x y : Verdict) → k ≡ 3 * n → cond (eqb k 0) x y ≡ cond (eqb n 0) x y
   none-of-three k n x y e = same (eqb k 0) (eqb n 0) (λ t. eq→eqb (down k n e (eqb→eq k 0 t))) (λ t. eq→eqb (up k n e (eqb→eq n 0 t)))
     where
@@ -70,13 +75,9 @@ module _ (limit : Float) (above : Above limit) where
       → verdict limit (meshOf limit os .vertices) (meshOf limit os .indices) ≡ cond (eqb (sumOf (λ (o : Object). keptBy limit (o .shape)) os) 0) Empty Ok
   unfolding meshOf
   verdict-mesh os n =
-      let w = mesh-written [] 0 os n in
+      let w = mesh-written limit [] 0 os n in
       let m = meshFrom limit 0 0 os in
       verdict-good limit above (m .vertices) (w .near) (m .indices) (w .good) ∙ none-of-three (size (m .indices)) _ Empty Ok (w .count)
-
-  pub mesh-finite : (os : List Object) → Each (λ (o : Object). NearShape (o .shape)) os → Each (NearP 6 24) (meshOf limit os .vertices)
-  unfolding meshOf
-  mesh-finite os n = mesh-written [] 0 os n .near
 
 -- ---- validate on a mesh's numbers is the verdict on the mesh
 pub validate-is : (limit : Float) (ps : List Point) (is : List ℕ) → validateAt limit (vertexNumbers ps) is ≡ Judged (verdict limit ps is)

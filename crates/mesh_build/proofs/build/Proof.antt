@@ -6,9 +6,9 @@ use Rattle.mesh_build.proofs.build.Tie as tie
 
 returns : tie.Need-returns
 unfolding build
-returns c = c .before .before .before .before .before .before .before .before .before .before .before .before .build-scene .ensures
+returns c = c .before .before .before .before .before .before .before .before .before .before .before .before .before .build-scene .ensures
 
 pub build-spec : {M : Type 1} → statement M
 build-spec =
     tie.close
-    (tie.spec (λ c κs. search needs) (λ c. search needs) (λ c. search needs) (λ c. search needs) (λ c. search needs) (λ c. search needs) (λ c. search needs) returns)
+    (tie.spec (λ c κs. tt) (λ c. search needs) (λ c. search needs) (λ c. search needs) (λ c. search needs) (λ c. search needs) (λ c. search needs) (λ c. search needs) returns)

@@ -1,7 +1,7 @@
 -- One object added by the program: the tails of the buffers lent to its builder, its span and its account; and that all of it fits. Assumes nothing.
 use mathlib.Core.Path.{_≡_, refl, sym, ap, ap₂, _∙_, subst}
 use mathlib.Core.Bool.{Bool, true, false, cond}
-use mathlib.Core.List.{List, [], _∷_}
+use mathlib.Core.List.{List, [], _∷_, map}
 use Prim.Native.Nat.{ℕ, zero, suc, _+_, _*_, _<_}
 use native.Mathlib.Nat.{add-zero, zero-add}
 use native.Mathlib.Omega.{arith}
@@ -11,6 +11,8 @@ use lib.Seq.{sets}
 use lib.Ieee.{Float}
 use borrow.Author.Tests.{eq-eqb, ne-eqb}
 use Rattle.lists.specs.Loops.{join, sumOf}
+use Rattle.lists.proofs.Stores.{sets-none}
+use Rattle.millimetre.specs.Millimetres.{millimetres}
 use Rattle.coords.specs.Buffers.{vertexNumbers, normalNumbers}
 use Rattle.object.specs.Object.{Shape, Object}
 use Rattle.scene.specs.declared.headers.Header.{Header}
@@ -169,6 +171,7 @@ module _ (limit : Float) (s : List ℕ) (p : Progress) (vs ns : List Float) (is 
           spans = (x ∙ ap (λ (k : List Span). sets ss (5 * p .spans) (spanNumbers k)) spans-are) i;
           account = (y ∙ ap (λ (k : Came). sets accounts (4 * p .objects) (accountBy k)) q) i;
           log = w .log i;
+          millimetres = sets-none [] (3 * p .vertices) (map millimetres (vertexNumbers (writeFaces limit (p .vertices) (facesOf (o .shape)) .vertices))) refl i;
         };
       }
 

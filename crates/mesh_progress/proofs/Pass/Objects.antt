@@ -8,7 +8,8 @@ use lib.ListN.{length, length-append}
 use lib.Seq.{sets, length-sets}
 use lib.Ieee.{Float}
 use Rattle.lists.specs.Loops.{join, sumOf}
-use Rattle.lists.proofs.Stores.{sets-append, records-behind}
+use Rattle.lists.proofs.Stores.{sets-append, records-behind, images-behind}
+use Rattle.millimetre.specs.Millimetres.{millimetres}
 use Rattle.coords.specs.Buffers.{vertexRecord, vertexNumbers, normalRecord, normalNumbers}
 use Rattle.object.specs.Object.{Object}
 use Rattle.lid.specs.Log.{entryRecord, logNumbers}
@@ -83,6 +84,7 @@ module _ (limit : Float) where
           spans = records-behind spanRecord 5 (λ a. refl) (b .spans) (st .spans) spans (m .spans) i;
           account = (ap (λ (j : ℕ). sets (sets (b .account) (4 * st .objects) (accountRecord (accountOf limit o))) j (accountNumbers (accountsOf limit os))) at-account ∙ sets-append (b .account) (4 * st .objects) (accountRecord (accountOf limit o)) (accountNumbers (accountsOf limit os))) i;
           log = records-behind entryRecord 4 (λ a. refl) (b .log) (st .entries) log (logsOf os) i;
+          millimetres = images-behind millimetres vertexRecord 3 (λ a. refl) (b .millimetres) v (piece .vertices) (m .vertices) i;
         };
       }
 

@@ -2,15 +2,13 @@
 use mathlib.Core.Path.{_≡_, refl, sym, ap, _∙_}
 use mathlib.Core.Bool.{Bool, true, false, cond}
 use mathlib.Core.List.{List, [], _∷_, _++_, append-nil}
-use Prim.Native.Nat.{ℕ, suc, _+_, _-_, _*_, _≤_}
-use native.Mathlib.Nat.{le-refl, le-of-lt, mul-add, zero-add}
-use native.Mathlib.Numerals.{add-one}
+use Prim.Native.Nat.{ℕ, suc, _+_, _-_, _≤_}
+use native.Mathlib.Nat.{le-refl, le-of-lt}
 use native.Mathlib.Omega.{arith}
 use lib.Dec.{leb}
 use lib.ListN.{length, take, drop, set, length-drop, take-append-drop, drop-of-length-le}
-use lib.Seq.{sets, set-out, sets-eq, take-all, length-take-le}
+use lib.Seq.{sets, set-out, take-all, length-take-le}
 use borrow.Author.Tests.{leb-true, leb-false}
-use Rattle.lists.specs.Loops.{over}
 use Rattle.lists.proofs.Stores.{sets-append}
 use Rattle.mesh_progress.specs.Contract.Pass.{clamped}
 
@@ -50,11 +48,6 @@ module _ {A : Type 0} where
   pub lent-back : (xs : List A) (n : ℕ) (w : List A) → backOf xs (clamped (length xs) n) (sets (tailOf xs (clamped (length xs) n)) 0 w) ≡ sets xs n w
   unfolding clamped
   lent-back xs n w = lent-by xs n w (leb n (length xs)) refl
-
-  -- a run stored from the start on, with room for it
-  pub sets-over : (w l : List A) → length w ≤ length l → sets l 0 w ≡ over w l
-  unfolding over
-  sets-over w l h = let k : 0 + length w ≤ length l = omega arith in sets-eq w l 0 k ∙ rw zero-add
 
   pub sets-fifth : (l : List A) (i : ℕ) (a b c d e : A) → set (sets l i (a ∷ b ∷ c ∷ d ∷ [])) (i + 4) e ≡ sets l i (a ∷ b ∷ c ∷ d ∷ e ∷ [])
   sets-fifth l i a b c d e = sets-append l i (a ∷ b ∷ c ∷ d ∷ []) (e ∷ [])

@@ -30,9 +30,9 @@ use Rattle.mesh.specs.PerBuffer.{each, at, Counts, numbersFor, Buffers, lent}
 use Rattle.mesh.specs.Contract.PerBuffer.{FitCounts}
 use Rattle.mesh.specs.Operations.{written}
 
--- the buffers that objects are drawn into: all, in the order of a call
+-- the buffers that objects are drawn into, in the order of a call: all but the millimetres, which are filled behind the pass and count as without room here
 abbrev pub drawnInto : List Float → List Float → List ℕ → List ℕ → List ℕ → List ℕ → Buffers
-drawnInto vs ns is ss accounts ls = lent vs ns is ss accounts ls
+drawnInto vs ns is ss accounts ls = lent vs ns is ss accounts ls []
 
 -- as the pass is lent them, when it is called and when it returns
 abbrev pub drawnEntering : Slice Float → Slice Float → Slice ℕ → Slice ℕ → Slice ℕ → Slice ℕ → Buffers

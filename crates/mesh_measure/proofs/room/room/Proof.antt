@@ -20,10 +20,18 @@ returns-3 c =
 returns-4 : tie.Need-returns-4
 unfolding tooShort
 returns-4 c =
-    let d = c .before .before .before .before in
-    rw (← d .before .before .before .before .short .ensures, ← d .before .before .before .short2 .ensures, d .before .before .if1 .left, ← d .before .short3 .ensures, d .if2 .left, ← c .before .before .before .short4 .ensures, ← c .before .before .short5 .ensures, ← c .before .short6 .ensures, c .if3 .left)
+    let e = c .before .before in
+    let d = e .before .before .before .before in
+    rw (← d .before .before .before .before .short .ensures, ← d .before .before .before .short2 .ensures, d .before .before .if1 .left, ← d .before .short3 .ensures, d .if2 .left, ← e .before .before .before .short4 .ensures, ← e .before .before .short5 .ensures, ← e .before .short6 .ensures, e .if3 .left, ← c .before .short7 .ensures, c .if4 .taken)
+
+returns-5 : tie.Need-returns-5
+unfolding tooShort
+returns-5 c =
+    let e = c .before .before in
+    let d = e .before .before .before .before in
+    rw (← d .before .before .before .before .short .ensures, ← d .before .before .before .short2 .ensures, d .before .before .if1 .left, ← d .before .short3 .ensures, d .if2 .left, ← e .before .before .before .short4 .ensures, ← e .before .before .short5 .ensures, ← e .before .short6 .ensures, e .if3 .left, ← c .before .short7 .ensures, c .if4 .left)
 
 pub room-spec : {M : Type 1} → statement M
 room-spec =
     tie.close
-    (tie.spec (λ c κs. tt) (λ c κs. tt) returns (λ c κs. tt) returns-2 (λ c κs. tt) (λ c κs. tt) (λ c κs. tt) returns-3 returns-4)
+    (tie.spec (λ c κs. tt) (λ c κs. tt) returns (λ c κs. tt) returns-2 (λ c κs. tt) (λ c κs. tt) (λ c κs. tt) returns-3 (λ c κs. tt) returns-4 returns-5)

@@ -1,0 +1,9 @@
+pub mod Nearest
+pub mod Placed
+pub mod Product
+pub mod Next
+pub mod Rule
+pub mod Law
+pub mod Bounds
+pub mod Computes
+pub mod Known

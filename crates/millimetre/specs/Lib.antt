@@ -1,0 +1,2 @@
+pub mod Millimetres
+pub mod Contract
