@@ -12,7 +12,7 @@ KINDS = {'open': 3, 'closed': 4}
 
 
 class Answer(ctypes.Structure):
-    _fields_ = [(name, ctypes.c_uint32) for name in 'refusal object vertices normals indices spans account log'.split()]
+    _fields_ = [(name, ctypes.c_uint32) for name in 'refusal object vertices normals indices spans account log millimetres'.split()]
 
 
 def linked():

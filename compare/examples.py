@@ -9,6 +9,7 @@ or `answer ok ..` and the words of each buffer in hexadecimal.
 """
 import sys
 
+# the buffers of 32-bit words; the millimetres, of 64-bit words, come last
 BUFFERS = ['vertices', 'normals', 'indices', 'spans', 'account', 'log']
 VERDICTS = {'ok': 0, 'empty': 1}
 
@@ -29,15 +30,16 @@ def scenes(path):
 def number(digits):
     return '0x' + digits.lower() if digits.strip('0') else '0'
 
-def words(buffer):
-    return f'(words {len(buffer)} {number("".join(buffer))})' if buffer else '[]'
+def words(buffer, form='words'):
+    return f'({form} {len(buffer)} {number("".join(buffer))})' if buffer else '[]'
 
 def example(scene):
     text, answer = scene['bytes'], scene['answer']
     given = f'(bytes {len(text) // 2} {number(text)})' if text else '[]'
     if answer[0] == 'refused':
         return f'refusedAs {given} {answer[1]} {answer[2]}'
-    return f'builtAs {given} {VERDICTS[answer[-1]]} ' + ' '.join(words(scene[b]) for b in BUFFERS)
+    buffers = [words(scene[b]) for b in BUFFERS] + [words(scene['millimetres'], 'longs')]
+    return f'builtAs {given} {VERDICTS[answer[-1]]} ' + ' '.join(buffers)
 
 # the scenes by the first letter of their names
 LISTS = {'lists': 'a', 'outlines': 'bcdefl', 'solids': 'ghi', 'sweeps': 'jk', 'refusals': 'm'}

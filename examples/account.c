@@ -7,9 +7,9 @@
 
 static uint8_t scene[16777217];
 
-/* Room for n numbers of four bytes; the library wants no null pointer. */
-static void *room(uint32_t n) {
-    void *p = malloc(4 * (size_t)n + 4);
+/* Room for n numbers of this size, and one more; the library wants no null pointer. */
+static void *room(uint32_t n, size_t size) {
+    void *p = malloc(size * ((size_t)n + 1));
     if (p == NULL) {
         fputs("no memory\n", stderr);
         exit(1);
@@ -36,12 +36,16 @@ int main(int argc, char **argv) {
 
     object_mesh_answer need = object_mesh_measure(scene, length);
     stop_if_refused(need);
-    float *vertices = room(need.vertices), *normals = room(need.normals);
-    uint32_t *indices = room(need.indices), *spans = room(need.spans);
-    uint32_t *account = room(need.account), *log = room(need.log);
+    float *vertices = room(need.vertices, sizeof *vertices);
+    float *normals = room(need.normals, sizeof *normals);
+    uint32_t *indices = room(need.indices, sizeof *indices);
+    uint32_t *spans = room(need.spans, sizeof *spans);
+    uint32_t *account = room(need.account, sizeof *account);
+    uint32_t *log = room(need.log, sizeof *log);
+    int64_t *millimetres = room(need.millimetres, sizeof *millimetres);
     stop_if_refused(object_mesh_build(scene, length, vertices, need.vertices, normals, need.normals,
                                       indices, need.indices, spans, need.spans, account,
-                                      need.account, log, need.log));
+                                      need.account, log, need.log, millimetres, need.millimetres));
 
     for (uint32_t k = 0; k < need.account; k += 4) {
         printf("object %u: offered %u, kept %u, thin %u\n", k / 4, account[k], account[k + 1],

@@ -19,7 +19,7 @@
  *             works on numbers that it does not use. Such a thread sets the mode around its calls:
  *                 unsigned mode = _mm_getcsr(); _mm_setcsr(0x1F80); ... _mm_setcsr(mode);
  * Stack       Build takes up to 27 KB, Measure as much, whatever the scene's size, Bound and Validate
- *             under 1 KB. This was measured (26,344 bytes, closed outlines), and is not proved.
+ *             under 1 KB. This was measured (26,568 bytes, closed outlines), and is not proved.
  * Threads     There is no state. Any number of threads may call at once, each with buffers of its own;
  *             they may share a scene.
  *
@@ -51,6 +51,11 @@
  *           offered = kept + thin
  * log       4 u32 an entry: a mark (enum object_mesh_mark) and three numbers; the objects' entries one
  *           behind the other (closed outlines have them)
+ * millimetres
+ *           3 i64 a vertex: the vertices in whole millimetres, so as many entries as there are vertex
+ *           numbers. Each is the exact product of the f32 and 1,000, rounded to the nearest whole
+ *           number, a half going away from zero: 0.0625 gives 63, -0.0625 gives -63, and -0.0 gives 0.
+ *           No entry passes 2^37 in magnitude
  */
 #ifndef OBJECT_MESH_H
 #define OBJECT_MESH_H
@@ -74,8 +79,9 @@ enum object_mesh_kind {
 };
 
 /* Why a call is refused; object_mesh_refusal_text says it in English. The first that is met is given,
- * from 1 on, record by record. 3 to 7 name the record as the object, or the number of records where the
- * last one does not end at the trailer (3); the others name object 0. */
+ * from 1 on, record by record; build judges its buffers after the scene, by 8, 9, 10 and then 12.
+ * 3 to 7 name the record as the object, or the number of records where the last one does not end at the
+ * trailer (3); the others name object 0. */
 enum object_mesh_refusal {
     OBJECT_MESH_REFUSED_NONE = 0,
     OBJECT_MESH_REFUSED_LENGTH = 1,
@@ -89,6 +95,7 @@ enum object_mesh_refusal {
     OBJECT_MESH_REFUSED_SHORT_INDICES = 9,
     OBJECT_MESH_REFUSED_SHORT_RECORDS = 10,
     OBJECT_MESH_REFUSED_PARTIAL_VERTEX = 11,
+    OBJECT_MESH_REFUSED_SHORT_MILLIMETRES = 12,
 };
 
 static inline const char *object_mesh_refusal_text(uint32_t refusal) {
@@ -105,6 +112,7 @@ static inline const char *object_mesh_refusal_text(uint32_t refusal) {
     case OBJECT_MESH_REFUSED_SHORT_INDICES: return "the buffer of indices is shorter than measured";
     case OBJECT_MESH_REFUSED_SHORT_RECORDS: return "the buffer of spans, account or log is shorter than measured";
     case OBJECT_MESH_REFUSED_PARTIAL_VERTEX: return "the vertices' length is no multiple of 3";
+    case OBJECT_MESH_REFUSED_SHORT_MILLIMETRES: return "the buffer of millimetres is shorter than measured";
     default: return "unknown refusal";
     }
 }
@@ -132,7 +140,8 @@ enum object_mesh_mark {
 };
 
 /* The answer of bound, measure and build: the refusal (enum object_mesh_refusal), the object named, and
- * how many numbers each buffer gets, for bound at most (all 0 on a refusal). */
+ * how many numbers each buffer gets, for bound at most (all 0 on a refusal). The millimetres get as many
+ * as the vertices. */
 typedef struct object_mesh_answer {
     uint32_t refusal;
     uint32_t object;
@@ -142,6 +151,7 @@ typedef struct object_mesh_answer {
     uint32_t spans;
     uint32_t account;
     uint32_t log;
+    uint32_t millimetres;
 } object_mesh_answer;
 
 /* The answer of validate. refusal: OBJECT_MESH_REFUSED_NONE or OBJECT_MESH_REFUSED_PARTIAL_VERTEX.
@@ -159,7 +169,7 @@ typedef struct object_mesh_judgement {
 
 /* Counts of numbers that suffice for build, told by the records' kinds and counts: never fewer than
  * measure's, and the same refusals. It only reads the scene, and so is the way to size buffers for one
- * build: buffers of these lengths are never too short (8 to 10), and build writes them in one pass.
+ * build: buffers of these lengths are never too short (8 to 10, 12), and build draws only once.
  * They may be longer than needed, where triangles are thin or a lid is not wholly cut; build answers
  * what was written. Refusals 1 to 7. */
 object_mesh_answer object_mesh_bound(const uint8_t *scene, size_t scene_len);
@@ -169,15 +179,16 @@ object_mesh_answer object_mesh_bound(const uint8_t *scene, size_t scene_len);
  * spare. Refusals 1 to 7. */
 object_mesh_answer object_mesh_measure(const uint8_t *scene, size_t scene_len);
 
-/* Writes the mesh, spans, account and log from the start of each buffer; what lies behind is kept.
- * Refusals 1 to 10. */
+/* Writes the mesh, spans, account, log and millimetres from the start of each buffer; what lies behind
+ * is kept. Refusals 1 to 10 and 12. */
 object_mesh_answer object_mesh_build(const uint8_t *scene, size_t scene_len,
                                      float *vertices, size_t vertices_len,
                                      float *normals, size_t normals_len,
                                      uint32_t *indices, size_t indices_len,
                                      uint32_t *spans, size_t spans_len,
                                      uint32_t *account, size_t account_len,
-                                     uint32_t *log, size_t log_len);
+                                     uint32_t *log, size_t log_len,
+                                     int64_t *millimetres, size_t millimetres_len);
 
 /* Whether a mesh can back a physics collider, and if not, why. */
 object_mesh_judgement object_mesh_validate(const float *vertices, size_t vertices_len,

@@ -8,7 +8,7 @@ use crate::{Counts, Refusal, Verdict};
 struct Answer {
     refusal: u32,
     object: u32,
-    counts: [u32; 6],
+    counts: [u32; 7],
 }
 
 #[repr(C)]
@@ -29,6 +29,7 @@ pub struct Written {
     pub spans: Vec<[u32; 5]>,
     pub account: Vec<[u32; 4]>,
     pub log: Vec<[u32; 4]>,
+    pub millimetres: Vec<[i64; 3]>,
 }
 
 impl Written {
@@ -40,6 +41,7 @@ impl Written {
         self.spans.shrink_to_fit();
         self.account.shrink_to_fit();
         self.log.shrink_to_fit();
+        self.millimetres.shrink_to_fit();
     }
 }
 
@@ -61,6 +63,8 @@ extern "C" {
         account_len: usize,
         log: *mut u32,
         log_len: usize,
+        millimetres: *mut i64,
+        millimetres_len: usize,
     ) -> Answer;
     fn object_mesh_validate(
         vertices: *const f32,
@@ -77,7 +81,8 @@ fn counted(answer: Answer) -> Result<Counts, Refusal> {
             object: answer.object,
         });
     }
-    let [vertices, normals, indices, spans, account, log] = answer.counts.map(|n| n as usize);
+    let [vertices, normals, indices, spans, account, log, millimetres] =
+        answer.counts.map(|n| n as usize);
     Ok(Counts {
         vertices,
         normals,
@@ -85,6 +90,7 @@ fn counted(answer: Answer) -> Result<Counts, Refusal> {
         spans,
         account,
         log,
+        millimetres,
     })
 }
 
@@ -109,6 +115,7 @@ pub fn build(scene: &[u8], room: Counts) -> Result<Written, Refusal> {
         spans: Vec::with_capacity(room.spans / 5),
         account: Vec::with_capacity(room.account / 4),
         log: Vec::with_capacity(room.log / 4),
+        millimetres: Vec::with_capacity(room.millimetres / 3),
     };
     let counts = counted(in_default_mode(|| unsafe {
         object_mesh_build(
@@ -126,6 +133,8 @@ pub fn build(scene: &[u8], room: Counts) -> Result<Written, Refusal> {
             4 * w.account.capacity(),
             w.log.as_mut_ptr().cast(),
             4 * w.log.capacity(),
+            w.millimetres.as_mut_ptr().cast(),
+            3 * w.millimetres.capacity(),
         )
     }))?;
     // By the library's contract the first so many numbers of each buffer are now what the scene
@@ -137,6 +146,7 @@ pub fn build(scene: &[u8], room: Counts) -> Result<Written, Refusal> {
         w.spans.set_len(counts.spans / 5);
         w.account.set_len(counts.account / 4);
         w.log.set_len(counts.log / 4);
+        w.millimetres.set_len(counts.millimetres / 3);
     }
     Ok(w)
 }

@@ -20,6 +20,7 @@ pub struct Counts {
     pub spans: usize,
     pub account: usize,
     pub log: usize,
+    pub millimetres: usize,
 }
 
 /// The stretch of a mesh that belongs to one object.
@@ -48,6 +49,8 @@ pub struct Built {
     pub spans: Vec<Span>,
     pub account: Vec<Account>,
     pub log: Vec<[u32; 4]>,
+    /// The vertices in whole millimetres.
+    pub millimetres: Vec<[i64; 3]>,
 }
 
 impl Built {
@@ -78,8 +81,8 @@ pub fn measure(scene: &[u8]) -> Result<Counts, Refusal> {
     calls::measure(scene)
 }
 
-/// The mesh, spans, account and log of a scene, in one pass: memory is taken by `bound`, and what
-/// was not needed of it is given back.
+/// The mesh, spans, account and log of a scene, drawn once, and its vertices in millimetres: memory
+/// is taken by `bound`, and what was not needed of it is given back.
 pub fn build(scene: &[u8]) -> Result<Built, Refusal> {
     let mut written = calls::build(scene, bound(scene)?)?;
     written.shorten();
@@ -90,6 +93,7 @@ pub fn build(scene: &[u8]) -> Result<Built, Refusal> {
         spans: written.spans.into_iter().map(span).collect(),
         account: written.account.into_iter().map(account_of).collect(),
         log: written.log,
+        millimetres: written.millimetres,
     })
 }
 

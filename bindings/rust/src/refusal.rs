@@ -25,6 +25,7 @@ impl Refusal {
             9 => "the buffer of indices is shorter than measured",
             10 => "the buffer of spans, account or log is shorter than measured",
             11 => "the vertices' length is no multiple of 3",
+            12 => "the buffer of millimetres is shorter than measured",
             _ => "unknown refusal",
         }
     }

@@ -63,11 +63,11 @@ fn scene(seed: u64) -> Vec<u8> {
     bytes
 }
 
-fn numbers(c: &Counts) -> [usize; 6] {
-    [c.vertices, c.normals, c.indices, c.spans, c.account, c.log]
+fn numbers(c: &Counts) -> [usize; 7] {
+    [c.vertices, c.normals, c.indices, c.spans, c.account, c.log, c.millimetres]
 }
 
-fn numbers_of(b: &Built) -> [usize; 6] {
+fn numbers_of(b: &Built) -> [usize; 7] {
     [
         3 * b.vertices.len(),
         3 * b.normals.len(),
@@ -75,6 +75,7 @@ fn numbers_of(b: &Built) -> [usize; 6] {
         5 * b.spans.len(),
         4 * b.account.len(),
         4 * b.log.len(),
+        3 * b.millimetres.len(),
     ]
 }
 
@@ -90,6 +91,7 @@ fn compare(scene: &[u8]) -> bool {
         Ok(counts) => {
             let most = numbers(&bound(scene).unwrap());
             let exact = numbers(&counts);
+            assert_eq!((most[6], exact[6]), (most[0], exact[0]));
             assert!(most.iter().zip(exact).all(|(&most, n)| most >= n), "{most:?} {exact:?}");
             assert_eq!(numbers_of(&build(scene).unwrap()), exact);
             most != exact
@@ -99,7 +101,7 @@ fn compare(scene: &[u8]) -> bool {
 
 #[test]
 fn a_box_comes_to_its_bound() {
-    assert_eq!(numbers(&bound(BOX).unwrap()), [72, 72, 36, 5, 4, 0]);
+    assert_eq!(numbers(&bound(BOX).unwrap()), [72, 72, 36, 5, 4, 0, 72]);
     assert!(!compare(BOX));
 }
 
@@ -121,7 +123,8 @@ fn generated_scenes_come_to_no_more() {
     assert!(accepted.iter().filter(|s| compare(s)).count() > 1_000);
 }
 
-/// FNV-1a over the bits of all six buffers.
+/// FNV-1a over the bits of all buffers but the millimetres, which follow from the vertices
+/// (millimetres.rs).
 fn hash(built: &Built) -> u64 {
     let floats = built.vertices.iter().chain(&built.normals).flatten().map(|x| x.to_bits());
     let spans = built.spans.iter().flat_map(|s| {

@@ -47,7 +47,9 @@ fn a_mesh_is_the_same_bits_in_every_mode() {
     let expected = build(STREET).unwrap();
     for mode in ROUNDED.into_iter().chain([FLUSHED, TRAPPING]) {
         let (built, after) = within(mode, || build(STREET));
-        assert_eq!(bits(&built.unwrap()), bits(&expected), "{mode:#x}");
+        let built = built.unwrap();
+        assert_eq!(bits(&built), bits(&expected), "{mode:#x}");
+        assert_eq!(built.millimetres, expected.millimetres, "{mode:#x}");
         assert_eq!(after, mode);
     }
 }

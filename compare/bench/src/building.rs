@@ -3,6 +3,7 @@
 use std::time::Duration;
 
 use library::calls::{self, Answer, Buffers};
+use reference::millimetre::plain;
 use reference::network::RoadNetwork;
 use reference::{build, read_scene};
 
@@ -57,11 +58,16 @@ fn text(line: &Line, times: [Duration; 6]) -> String {
     format!("| {name} | {bytes} | {triangles} | {} | {ratios} |", ms(times[0]))
 }
 
-/// What the Rust's user does: the objects read, their mesh made; no account and no log.
+/// What the Rust's user does: the objects read, their mesh made, and since the original has none, its
+/// vertices in millimetres by a plain loop; no account and no log.
 pub fn original(scene: &[u8]) -> impl Sized {
     let network = RoadNetwork::from(read_scene(scene).expect("the scene is accepted"));
     let mesh = network.object_mesh_plain();
-    (network, mesh)
+    let mut millimetres: Vec<i64> = Vec::with_capacity(3 * mesh.vertices.len());
+    for vertex in &mesh.vertices {
+        millimetres.extend(vertex.to_array().map(plain));
+    }
+    (network, mesh, millimetres)
 }
 
 pub fn library(scene: &[u8]) -> Buffers {
@@ -72,19 +78,23 @@ pub fn library(scene: &[u8]) -> Buffers {
 
 /// So many times as long as measured.
 fn buffers(measured: &Answer, times: usize) -> Buffers {
-    let zeros = |k: usize| vec![0; times * measured.counts[k] as usize];
+    let size = |k: usize| times * measured.counts[k] as usize;
+    let zeros = |k: usize| vec![0; size(k)];
     Buffers {
         floats: [zeros(0), zeros(1)],
         numbers: [zeros(2), zeros(3), zeros(4), zeros(5)],
+        millimetres: vec![0; size(6)],
     }
 }
 
-/// Both give the same six buffers; how many triangles they have.
+/// Both give the same seven buffers; how many triangles they have.
 fn compare(scene: &[u8]) -> usize {
     let objects = read_scene(scene).expect("the scene is accepted");
-    let expected = reference::answer::words(&build(&objects));
-    let Buffers { floats, numbers } = library(scene);
-    let got: Vec<Vec<u32>> = floats.into_iter().chain(numbers).collect();
-    assert!(got == expected, "the library differs from the original");
-    expected[2].len() / 3
+    let expected = build(&objects);
+    let got = library(scene);
+    let words: Vec<Vec<u32>> = got.floats.into_iter().chain(got.numbers).collect();
+    let same =
+        words == reference::answer::words(&expected) && got.millimetres == expected.millimetres;
+    assert!(same, "the library differs from the original");
+    expected.indices.len() / 3
 }

@@ -2,6 +2,7 @@
 
 mod building;
 mod cutting;
+mod filling;
 mod memory;
 mod outlines;
 mod reading;
@@ -33,6 +34,7 @@ fn main() -> ExitCode {
     timing::keep_memory();
     building::table(only);
     cutting::table(only);
+    filling::table(only);
     reading::table(only);
     slowest::table(only);
     validating::table(only);

@@ -13,6 +13,9 @@ use crate::scenes::{largest, to_the_limit};
 
 pub const CHILD: &str = "--memory-of";
 
+/// The bytes of a number of each buffer, the millimetres' last.
+const WIDTHS: [i64; 7] = [4, 4, 4, 4, 4, 4, 8];
+
 const SCENES: [(&str, fn() -> Vec<u8>); 3] = [
     ("memory, 16 MiB, mix", largest),
     ("memory, 16 MiB, walls", || walls(MOST_BYTES, 1)),
@@ -36,9 +39,10 @@ pub fn table(only: &str) {
 
 fn line(name: &str, scene: &[u8]) -> String {
     let counts = calls::measure(scene).counts;
-    let kib = |counts: &[u32]| counts.iter().map(|&n| i64::from(n)).sum::<i64>() * 4 / 1024;
+    let bytes = |&k: &usize| i64::from(counts[k]) * WIDTHS[k];
+    let kib = |buffers: &[usize]| buffers.iter().map(bytes).sum::<i64>() / 1024;
     // The Rust has no account and no log.
-    let (mesh, all) = (kib(&counts[..4]), kib(&counts));
+    let (mesh, all) = (kib(&[0, 1, 2, 3, 6]), kib(&[0, 1, 2, 3, 4, 5, 6]));
     let (rust, library) = (grown("rust", scene) - mesh, grown("library", scene) - all);
     // The system counts to about a tenth of a MiB.
     let mib = |kib: i64| format!("{:.1}", kib.max(0) as f64 / 1024.0);

@@ -5,7 +5,7 @@
 pub struct Answer {
     pub refusal: u32,
     pub object: u32,
-    pub counts: [u32; 6],
+    pub counts: [u32; 7],
 }
 
 #[repr(C)]
@@ -23,6 +23,7 @@ pub struct Judgement {
 pub struct Buffers {
     pub floats: [Vec<u32>; 2],
     pub numbers: [Vec<u32>; 4],
+    pub millimetres: Vec<i64>,
 }
 
 extern "C" {
@@ -44,6 +45,8 @@ extern "C" {
         account_len: usize,
         log: *mut u32,
         log_len: usize,
+        millimetres: *mut i64,
+        millimetres_len: usize,
     ) -> Answer;
     fn object_mesh_validate(
         vertices: *const f32,
@@ -81,6 +84,8 @@ pub fn build(scene: &[u8], b: &mut Buffers) -> Answer {
             account.len(),
             log.as_mut_ptr(),
             log.len(),
+            b.millimetres.as_mut_ptr(),
+            b.millimetres.len(),
         )
     }
 }

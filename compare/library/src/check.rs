@@ -1,9 +1,17 @@
 //! One scene: Measure; Bound; Build on exact, longer and too short buffers and on those of the bound,
 //! under several fillings, written and unwritten numbers alike; Validate; refusals.
 
+use reference::answer::words;
 use reference::{build, read_scene, validate, Built};
 
 use library::calls::{self, Answer, Buffers};
+
+/// The numbers of each buffer, the millimetres' last.
+type Sizes = [u32; 7];
+
+/// The row of a buffer that is too short.
+const TOO_SHORT: Sizes = [8, 8, 9, 10, 10, 10, 12];
+const MILLIMETRES: usize = 6;
 
 /// Whether the scene is accepted; an error tells the first difference.
 pub fn scene(bytes: &[u8], turn: u64) -> Result<bool, String> {
@@ -13,47 +21,75 @@ pub fn scene(bytes: &[u8], turn: u64) -> Result<bool, String> {
             let expected = Answer {
                 refusal,
                 object,
-                counts: [0; 6],
+                counts: [0; 7],
             };
             same("measure", &calls::measure(bytes), &expected)?;
             same("bound", &calls::bound(bytes), &expected)?;
-            kept(bytes, &lent([7, 8, 9, 5, 4, 3], filling), &expected)?;
+            kept(bytes, &lent([7, 8, 9, 5, 4, 3, 6], filling), &expected)?;
             return Ok(false);
         }
         Ok(objects) => objects,
     };
     let built = build(&objects);
-    let counts = counts(&built);
     let expected = Answer {
         refusal: 0,
         object: 0,
-        counts,
+        counts: counts(&built),
     };
     same("measure", &calls::measure(bytes), &expected)?;
-    written(bytes, &built, counts, filling, &expected)?;
-    written(bytes, &built, counts.map(|n| n + 1 + n % 5), filling, &expected)?;
-    written(bytes, &built, bound(bytes, counts)?, filling, &expected)?;
-    for k in 0..6 {
-        if counts[k] > 0 {
-            let mut short = counts;
-            short[k] -= 1;
-            let expected = Answer {
-                refusal: [8, 8, 9, 10, 10, 10][k],
-                ..Answer::default()
-            };
-            kept(bytes, &lent(short, filling), &expected)?;
-        }
-    }
+    by_length(bytes, &built, filling, &expected)?;
     verdict(&built)?;
     Ok(true)
 }
 
-/// The bound of an accepted scene: no count is under Measure's.
-fn bound(bytes: &[u8], counts: [u32; 6]) -> Result<[u32; 6], String> {
+/// Build on buffers exactly as measured, longer, and of the bound; on those of the bound but for the
+/// millimetres; and on too short ones.
+fn by_length(bytes: &[u8], built: &Built, filling: u32, expected: &Answer) -> Result<(), String> {
+    let counts = expected.counts;
+    let most = bound(bytes, counts)?;
+    let mut narrow = most;
+    narrow[MILLIMETRES] = counts[MILLIMETRES];
+    for sizes in [counts, counts.map(|n| n + 1 + n % 5), most, narrow] {
+        written(bytes, built, sizes, filling, expected)?;
+    }
+    for k in (0..7).filter(|&k| counts[k] > 0) {
+        too_short(bytes, counts, &[k], filling)?;
+        if k != MILLIMETRES && counts[MILLIMETRES] > 0 {
+            too_short(bytes, counts, &[k, MILLIMETRES], filling)?;
+        }
+    }
+    if counts[MILLIMETRES] > 0 {
+        too_short(bytes, narrow, &[MILLIMETRES], filling)?;
+    }
+    Ok(())
+}
+
+/// These buffers a number too short each: the row of the first of them.
+fn too_short(
+    bytes: &[u8],
+    mut sizes: Sizes,
+    buffers: &[usize],
+    filling: u32,
+) -> Result<(), String> {
+    for &k in buffers {
+        sizes[k] -= 1;
+    }
+    let expected = Answer {
+        refusal: TOO_SHORT[buffers[0]],
+        ..Answer::default()
+    };
+    kept(bytes, &lent(sizes, filling), &expected)
+}
+
+/// The bound of an accepted scene: no count is under Measure's, and the millimetres get as many as
+/// the vertices.
+fn bound(bytes: &[u8], counts: Sizes) -> Result<Sizes, String> {
     let answer = calls::bound(bytes);
-    let enough = counts.iter().zip(answer.counts).all(|(&n, most)| n <= most);
-    if (answer.refusal, answer.object, enough) == (0, 0, true) {
-        return Ok(answer.counts);
+    let most = answer.counts;
+    let enough = counts.iter().zip(most).all(|(&n, most)| n <= most);
+    let sound = enough && most[MILLIMETRES] == most[0];
+    if (answer.refusal, answer.object, sound) == (0, 0, true) {
+        return Ok(most);
     }
     Err(format!("bound: {answer:?}, measured {counts:?}"))
 }
@@ -65,31 +101,19 @@ fn same<T: PartialEq + std::fmt::Debug>(what: &str, got: &T, expected: &T) -> Re
     Err(format!("{what}: {got:?}, expected {expected:?}"))
 }
 
-fn bits(xs: &[f32]) -> Vec<u32> {
-    xs.iter().map(|x| x.to_bits()).collect()
-}
-
-fn words(b: &Built) -> [Vec<u32>; 6] {
-    [
-        bits(&b.vertices),
-        bits(&b.normals),
-        b.indices.clone(),
-        b.spans.clone(),
-        b.account.clone(),
-        b.log.clone(),
-    ]
-}
-
-fn counts(b: &Built) -> [u32; 6] {
-    words(b).map(|w| w.len() as u32)
+fn counts(b: &Built) -> Sizes {
+    let [v, n, i, s, a, l] = words(b).map(|w| w.len());
+    [v, n, i, s, a, l, b.millimetres.len()].map(|n| n as u32)
 }
 
 /// Buffers of these sizes, each number telling its place.
-fn lent(sizes: [u32; 6], filling: u32) -> Buffers {
+fn lent(sizes: Sizes, filling: u32) -> Buffers {
     let fill = |k: usize| (0..sizes[k]).map(|i| filling ^ i).collect();
+    let long = |i: u32| i64::from(filling as i32) << 32 | i64::from(filling ^ i);
     Buffers {
         floats: [fill(0), fill(1)],
         numbers: [fill(2), fill(3), fill(4), fill(5)],
+        millimetres: (0..sizes[MILLIMETRES]).map(long).collect(),
     }
 }
 
@@ -103,7 +127,7 @@ fn kept(bytes: &[u8], before: &Buffers, expected: &Answer) -> Result<(), String>
 fn written(
     bytes: &[u8],
     built: &Built,
-    sizes: [u32; 6],
+    sizes: Sizes,
     filling: u32,
     expected: &Answer,
 ) -> Result<(), String> {
@@ -113,11 +137,23 @@ fn written(
     let was = before.floats.iter().chain(&before.numbers);
     let is = after.floats.iter().chain(&after.numbers);
     for ((written, was), is) in words(built).iter().zip(was).zip(is) {
-        let mut expected = written.clone();
-        expected.extend(&was[written.len()..]);
-        same("buffer", is, &expected)?;
+        over("buffer", written, was, is)?;
     }
-    Ok(())
+    over(
+        "millimetres",
+        &built.millimetres,
+        &before.millimetres,
+        &after.millimetres,
+    )
+}
+
+/// What was written, and behind it what was there.
+fn over<T>(what: &str, written: &[T], was: &[T], is: &[T]) -> Result<(), String>
+where
+    T: Copy + PartialEq + std::fmt::Debug,
+{
+    let expected = [written, &was[written.len()..]].concat();
+    same(what, &is, &expected.as_slice())
 }
 
 /// Validate on the mesh, and on the mesh with faults put in.

@@ -9,23 +9,16 @@ use crate::verdict::validate;
 
 const VERDICTS: [&str; 5] = ["ok", "empty", "nonfinite", "range", "degenerate"];
 
-/// `scene FAMILY HEX`, `answer ..`, and the six buffers where there are any.
+/// `scene FAMILY HEX`, `answer ..`, and the seven buffers where there are any.
 pub fn answer(family: &str, bytes: &[u8]) -> String {
     let mut text = format!("scene {family} {}\n", hex(bytes));
     match read_scene(bytes) {
         Err((number, object)) => line(&mut text, &format!("answer refused {number} {object}")),
         Ok(objects) => {
             let built = build(&objects);
-            let buffers = words(&built);
             let verdict = validate(&built.vertices, &built.indices).verdict;
-            line(&mut text, &summary(&buffers, VERDICTS[verdict as usize]));
-            for (name, words) in NAMES.iter().zip(&buffers) {
-                text.push_str(name);
-                for word in words {
-                    write!(text, " {word:08X}").expect("a string takes text");
-                }
-                text.push('\n');
-            }
+            line(&mut text, &summary(&built, VERDICTS[verdict as usize]));
+            buffers(&mut text, &built);
         }
     }
     text
@@ -33,7 +26,7 @@ pub fn answer(family: &str, bytes: &[u8]) -> String {
 
 const NAMES: [&str; 6] = ["vertices", "normals", "indices", "spans", "account", "log"];
 
-/// The six buffers as words.
+/// The six buffers of 32-bit words.
 pub fn words(built: &Built) -> [Vec<u32>; 6] {
     let bits = |floats: &[f32]| floats.iter().map(|x| x.to_bits()).collect();
     [
@@ -46,15 +39,33 @@ pub fn words(built: &Built) -> [Vec<u32>; 6] {
     ]
 }
 
-fn summary(buffers: &[Vec<u32>; 6], verdict: &str) -> String {
+fn summary(built: &Built, verdict: &str) -> String {
+    let (words, longs) = (words(built), &built.millimetres);
+    let counts = words.iter().map(Vec::len).chain([longs.len()]);
+    let hashes = words.iter().map(|buffer| fnv::hash(buffer));
     let mut text = String::from("answer ok");
-    for buffer in buffers {
-        write!(text, " {}", buffer.len()).expect("a string takes text");
+    for count in counts {
+        write!(text, " {count}").expect("a string takes text");
     }
-    for buffer in buffers {
-        write!(text, " {:016x}", fnv::hash(buffer)).expect("a string takes text");
+    for hash in hashes.chain([fnv::hash_longs(longs)]) {
+        write!(text, " {hash:016x}").expect("a string takes text");
     }
     format!("{text} {verdict}")
+}
+
+fn buffers(text: &mut String, built: &Built) {
+    for (name, words) in NAMES.iter().zip(words(built)) {
+        text.push_str(name);
+        for word in words {
+            write!(text, " {word:08X}").expect("a string takes text");
+        }
+        text.push('\n');
+    }
+    text.push_str("millimetres");
+    for long in &built.millimetres {
+        write!(text, " {long:016X}").expect("a string takes text");
+    }
+    text.push('\n');
 }
 
 fn line(text: &mut String, line: &str) {

@@ -1,6 +1,8 @@
-//! What Build leaves in the six buffers (document 01, section 7).
+//! What Build leaves in the seven buffers (document 01, section 7; document
+//! 02, request 1).
 
 use crate::mesh::Mesh;
+use crate::millimetre::millimetres;
 use crate::network::{Object, RoadNetwork};
 use crate::price::offered;
 use crate::record::{self, Notes};
@@ -13,6 +15,7 @@ pub struct Built {
     pub spans: Vec<u32>,
     pub account: Vec<u32>,
     pub log: Vec<u32>,
+    pub millimetres: Vec<i64>,
     /// Of each object, beyond the buffers: its lid's flat corners among them.
     pub notes: Vec<Notes>,
 }
@@ -54,8 +57,10 @@ fn buffers(mesh: &Mesh, notes: Vec<Notes>) -> Built {
             s.indices.end,
         ]
     };
+    let vertices: Vec<f32> = mesh.vertices.iter().flat_map(|p| p.to_array()).collect();
     Built {
-        vertices: mesh.vertices.iter().flat_map(|p| p.to_array()).collect(),
+        millimetres: vertices.iter().map(|&x| millimetres(x)).collect(),
+        vertices,
         normals: mesh.normals.iter().flat_map(|v| v.to_array()).collect(),
         indices: mesh.indices.clone(),
         spans: mesh.objects.iter().flat_map(span).collect(),

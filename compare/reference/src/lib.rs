@@ -1,6 +1,6 @@
 //! The original object mesh module with document 01's stand-ins, its account
-//! and log, a reader of scene bytes, a check of demand 3 and families of
-//! scenes.
+//! and log, the vertices in millimetres, a reader of scene bytes, a check of
+//! demand 3 and families of scenes.
 
 pub mod answer;
 pub mod built;
@@ -11,6 +11,7 @@ pub mod exact;
 pub mod families;
 pub mod fnv;
 pub mod long;
+pub mod millimetre;
 pub mod network;
 pub mod pair;
 pub mod price;

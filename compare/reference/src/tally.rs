@@ -46,8 +46,8 @@ impl fmt::Display for Tally {
     }
 }
 
-/// Demand 3 on the scene, if it is accepted, and that the instruments did not
-/// change its mesh.
+/// Demand 3 on the scene, if it is accepted, that the instruments did not
+/// change its mesh, and that no entry of the millimetres passes 2^37.
 pub fn tally(scene: &[u8], tally: &mut Tally) -> Result<(), String> {
     tally.scenes += 1;
     let objects = match read_scene(scene) {
@@ -62,6 +62,9 @@ pub fn tally(scene: &[u8], tally: &mut Tally) -> Result<(), String> {
     let (with, without) = (words(&built), words(&build_plain(&objects)));
     if with[..4] != without[..4] {
         return Err("the instruments changed the mesh".to_string());
+    }
+    if built.millimetres.iter().any(|n| n.unsigned_abs() > 1 << 37) {
+        return Err("a number of millimetres passes 2^37".to_string());
     }
     tally.empty += u64::from(built.indices.is_empty());
     for notes in &built.notes {

@@ -17,6 +17,7 @@ pub const FAMILIES: &[Family] = &[
     ("faraway", far_away),
     ("negzero", negative_zeros),
     ("anybits", any_bits),
+    ("halves", halves),
 ];
 
 fn power(r: &mut Random, from: i32, to: i32) -> f64 {
@@ -137,4 +138,32 @@ fn any_bits(r: &mut Random) -> Vec<u8> {
     };
     let (outer, hole) = (ring(6), ring(4));
     Writer::new().outline(5, true, &outer, &[hole]).finish()
+}
+
+/// Coordinates in the middle between two millimetres and beside it, and those
+/// at the ends of the range.
+fn halves(r: &mut Random) -> Vec<u8> {
+    let corners: Vec<Corner> = (0..2 + r.below(12))
+        .map(|_| Corner {
+            base: Point::from_array([0; 3].map(|_| near_half(r))),
+            top: Point::from_array([0; 3].map(|_| near_half(r))),
+        })
+        .collect();
+    Writer::new()
+        .outline(6, r.chance(30), &corners, &[])
+        .finish()
+}
+
+fn near_half(r: &mut Random) -> f32 {
+    match r.below(8) {
+        0 | 1 => r.pick(&[0.0625, 0.1875, -0.0625]),
+        2 => r.pick(&[16_777_216.0, -16_777_216.0]),
+        3 => r.pick(&[0x0000_0001, 0x8000_0001, 0x007F_FFFF, 0x8000_0000].map(f32::from_bits)),
+        _ => {
+            let size = r.below(24);
+            let odd = r.below(2 << size) | 1;
+            let half = f32::from_bits((odd as f32 / 16.0).to_bits() - 1 + r.below(3) as u32);
+            r.pick(&[half, -half])
+        }
+    }
 }
