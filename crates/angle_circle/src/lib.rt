@@ -1,11 +1,14 @@
 // The sines and cosines of a prism's sixteen ring points, at k * TAU / 16, and of its sixteen side
 // directions, half a step further: document 01, section 3.
+
+#![tactic(auto)]
+
 ghost use Rattle.std.specs.Prelude.{◌≡◌};
 ghost use Rattle.angle_circle.specs.Circle.{angle, side_angle};
 ghost use Rattle.angle_circle.specs.Contract.Circle.{sin_cos};
 
 // The sines and the cosines of sixteen angles.
-#[derive(Drop)]
+#[derive(Clone, Copy)]
 pub struct SinCos {
     pub sin: [f32; 16],
     pub cos: [f32; 16],

@@ -1,5 +1,7 @@
 // Points: three f32, by value, with the operations of coords.rs in its order.
 
+#![tactic(auto)]
+
 pub mod thin;
 
 ghost use Rattle.std.specs.Prelude.{◌≡◌};
@@ -8,7 +10,7 @@ ghost use Rattle.coords.specs.Coords.{diff, moved, lerp, same_point, finite_poin
 use coords_vector::Vector;
 
 // A point in the world: metres, right-handed, Z up.
-#[derive(Drop)]
+#[derive(Clone, Copy)]
 pub struct Point {
     pub x: f32,
     pub y: f32,

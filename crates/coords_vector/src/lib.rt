@@ -1,9 +1,12 @@
 // Vectors: three f32, by value, with the operations of coords.rs in its order.
+
+#![tactic(auto)]
+
 ghost use Rattle.std.specs.Prelude.{◌≡◌};
 ghost use Rattle.coords_vector.specs.Vectors.{plus, less, scale, negate, dot, cross, normalize_or};
 
 // A displacement between points, or a direction.
-#[derive(Drop)]
+#[derive(Clone, Copy)]
 pub struct Vector {
     pub x: f32,
     pub y: f32,

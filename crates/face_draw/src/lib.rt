@@ -1,5 +1,7 @@
 // One flat face, `face` of object_mesh.rs, drawn into lent buffers behind what stands there.
 
+#![tactic(auto)]
+
 pub mod points;
 
 ghost use Rattle.std.specs.Prelude.{◌≡◌, ◌+◌, ◌<◌, ◌/◌, ◌^◌, eqb, length};

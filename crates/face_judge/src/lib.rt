@@ -1,6 +1,8 @@
 // The triangles of a face, one after the other: each is judged thin, or as it faces out or away, counted,
 // and written if it is kept.
 
+#![tactic(auto)]
+
 pub mod quad;
 
 ghost use Rattle.std.specs.Prelude.{◌≡◌, [], ◌∷◌, ◌+◌, ◌*◌, ◌<◌, ◌/◌, ◌^◌, length};
@@ -14,7 +16,7 @@ use coords::Point;
 use coords_vector::Vector;
 
 // How a triangle lies: thin, or with its cross product, as it faces out or away.
-#[derive(Drop)]
+#[derive(Clone, Copy)]
 pub enum Side {
     Thin,
     Front(Vector),
@@ -22,7 +24,7 @@ pub enum Side {
 }
 
 // What a face's triangles come to.
-#[derive(Drop)]
+#[derive(Clone, Copy)]
 pub struct Sum {
     pub normal: Vector,
     pub kept: u32,

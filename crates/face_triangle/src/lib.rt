@@ -1,1 +1,3 @@
 // Triangles of points by their numbers. Definitions only.
+
+#![tactic(auto)]

@@ -1,4 +1,7 @@
 // The narrowing of an f64 to an f32, for every value: IEEE 754, to nearest, ties to even.
+
+#![tactic(auto)]
+
 ghost use Rattle.std.specs.Prelude.{◌≡◌, cond, ◌+◌, ◌^◌, ◌%◌, ◌≤◌, ◌<◌, leb};
 ghost use Rattle.std.specs.Float.{binary32, binary64};
 ghost use Rattle.std.specs.Float.Ieee.{of_bits};

@@ -1,5 +1,7 @@
 // Signs, the larger of two numbers and their order, for every value.
 
+#![tactic(auto)]
+
 pub mod finite;
 
 ghost use Rattle.std.specs.Prelude.{◌≡◌};

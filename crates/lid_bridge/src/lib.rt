@@ -1,5 +1,7 @@
 // How a hole is joined to the ring, as `bridge`.
 
+#![tactic(auto)]
+
 mod ray;
 
 ghost use Rattle.std.specs.Prelude.{◌≡◌, ◌+◌, ◌<◌, length};

@@ -1,6 +1,9 @@
 // Ear clipping of one ring, as the loop of `triangulate`. The coordinates of its corners are held beside it, in ring order, and notes of what is known
 // of its places. The ring is what stands in its buffer behind the places cut off so far, since ears are found near the front: a corner that is cut off
 // moves only those before it.
+
+#![tactic(auto)]
+
 ghost use Rattle.std.specs.Prelude.{◌≡◌, ◌+◌, ◌<◌, ◌≤◌, ◌^◌, length};
 ghost use Rattle.lists.specs.Loops.{first};
 ghost use Rattle.lid.specs.Rings.{turn};
@@ -22,7 +25,7 @@ use lid_place::corners::corners_at;
 use lid_place::{remove, remove_coordinate};
 
 // What a step of clipping did: whether a corner was cut off, the place from which on there is no note, and how many triangles there then are.
-#[derive(Drop)]
+#[derive(Clone, Copy)]
 pub struct Stepped {
     pub more: bool,
     pub known: usize,

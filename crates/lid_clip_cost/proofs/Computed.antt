@@ -1,7 +1,6 @@
 -- Notes and counts of small rings, computed on the definitions. Assumes nothing.
 use mathlib.Core.Path.{◌≡◌, refl}
 use mathlib.Core.List.{List, [], ◌∷◌}
-use Prim.Native.Nat.{ℕ}
 use lib.ListN.{replicate}
 use lib.Ieee.{Float, binary32, of_bits}
 use Rattle.lists.proofs.Computes.{computes as lists-computes}

@@ -1,5 +1,7 @@
 // The search for an ear. How far a place's tests have come is noted, so that they go on from there, and a place that failed one is passed over.
 
+#![tactic(auto)]
+
 pub mod notes;
 
 ghost use Rattle.std.specs.Prelude.{◌≡◌, ◌+◌, ◌-◌, ◌/◌, ◌<◌, ◌≤◌, length};

@@ -1,4 +1,7 @@
 // A ring clipped, and what is left of it written, as in `triangulate`.
+
+#![tactic(auto)]
+
 ghost use Rattle.std.specs.Prelude.{◌≡◌, map, ◌+◌, ◌<◌, ◌^◌, length};
 ghost use Rattle.lid.specs.Log.{entry};
 ghost use Rattle.lid.specs.Contract.Rings.{flats_in};
@@ -31,7 +34,8 @@ fn put_last(xs: &[f32], ys: &[f32], ring: &[u32], triangles: &mut [u32], count: 
     ensures value { result ≡ count + length (last_triangle (flats_in xs ys) ring.now) }
     ensures triangles_after { triangles.new ≡ triangles_with triangles.old count (last_triangle (flats_in xs ys) ring.now) }
 {
-    if ring.len() != 3 {
+    let corners = 3;
+    if ring.len() != corners {
         return count;
     }
     let a = ring[0];

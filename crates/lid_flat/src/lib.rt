@@ -1,4 +1,7 @@
 // Flat corners by number and by place of a ring, and the turn of three corners.
+
+#![tactic(auto)]
+
 ghost use Rattle.std.specs.Prelude.{◌≡◌, ◌<◌, length, get_or};
 ghost use Rattle.lid.specs.Rings.{corner, turn};
 ghost use Rattle.lid.specs.Contract.Rings.{flats_in};

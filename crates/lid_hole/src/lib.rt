@@ -1,5 +1,7 @@
 // A hole of an outline: where its corners start, and its corners, turned, with whether it is too small.
 
+#![tactic(auto)]
+
 pub mod order;
 pub mod survey;
 

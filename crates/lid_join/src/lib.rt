@@ -1,4 +1,7 @@
 // Holes joined to the ring, one after the other.
+
+#![tactic(auto)]
+
 ghost use Rattle.std.specs.Prelude.{◌≡◌, ◌+◌, ◌<◌, ◌≤◌, ◌^◌, length, get_or};
 ghost use Rattle.lists.specs.Each.{Each};
 ghost use Rattle.lists.specs.Loops.{over};

@@ -1,4 +1,7 @@
 // Entries of the log and triangles in the lent buffers. A store past the end is left out.
+
+#![tactic(auto)]
+
 ghost use Rattle.std.specs.Prelude.{◌≡◌, ◌∷◌, [], ◌*◌};
 ghost use Rattle.face_triangle.specs.Triangles.{triangle};
 ghost use Rattle.lid.specs.Log.{entry};

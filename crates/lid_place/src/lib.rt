@@ -1,5 +1,7 @@
 // The places of a ring: their neighbours, and a corner taken out.
 
+#![tactic(auto)]
+
 pub mod corners;
 
 ghost use Rattle.std.specs.Prelude.{◌≡◌, ◌<◌, ◌++◌, length, take};

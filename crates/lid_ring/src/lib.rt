@@ -1,5 +1,7 @@
 // Rings of corner numbers as a lid writes them, turned.
 
+#![tactic(auto)]
+
 pub mod area;
 
 ghost use Rattle.std.specs.Prelude.{◌≡◌, reverse, ◌+◌, ◌-◌, ◌<◌, ◌≤◌, ◌^◌, length};

@@ -1,4 +1,7 @@
 // A hole put into a ring, and a number into a list, in place.
+
+#![tactic(auto)]
+
 ghost use Rattle.std.specs.Prelude.{◌≡◌, ◌++◌, ◌+◌, ◌<◌, ◌≤◌, length, take, drop};
 ghost use Rattle.lid.specs.Bridges.{splice};
 ghost use Rattle.lid.specs.Contract.Steps.{insert_at, but_last};
@@ -47,7 +50,8 @@ pub fn splice(ring: &mut [u32], at: RingPlace, hole: &[u32], j: RingPlace)
     make_room(ring, t, h + 2);
     let mut k = 0;
     while k <= h {
-        ring[t + 1 + k] = hole[(b + k) % h];
+        let from = (b + k) % h;
+        ring[t + 1 + k] = hole[from];
         k += 1;
     }
 }

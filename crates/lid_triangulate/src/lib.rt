@@ -1,4 +1,7 @@
 // A whole lid, as `triangulate`, with the log.
+
+#![tactic(auto)]
+
 ghost use Rattle.std.specs.Prelude.{◌≡◌, ◌+◌, ◌<◌, ◌≤◌, ◌^◌, length, take};
 ghost use Rattle.lists.specs.Loops.{sum_of};
 ghost use Rattle.lists.specs.Loops.{list};

@@ -1,5 +1,8 @@
 // The mesh, spans, account and log of a scene, Measure and Build as definitions, and demand 3 over
 // them: see specs/ and proofs/.
+
+#![tactic(auto)]
+
 use refusal::Refusal;
 
 // The numbers of a span, and of an object's account.
@@ -8,7 +11,7 @@ pub const SPAN_WIDTH: usize = 5;
 pub const ACCOUNT_WIDTH: usize = 4;
 
 // Whether the lent buffers have room for what is measured: by which row the first that has none is refused.
-#[derive(Drop)]
+#[derive(Clone, Copy)]
 pub enum Room {
     Enough,
     Short(Refusal),

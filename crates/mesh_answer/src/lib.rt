@@ -1,4 +1,7 @@
 // What the operations answer: specs/Answers.antt gives document 01's number and values for each case.
+
+#![tactic(auto)]
+
 ghost use Rattle.std.specs.Prelude.{◌≡◌};
 ghost use Rattle.mesh.specs.PerBuffer.{numbers_for};
 ghost use Rattle.mesh.specs.Contract.PerBuffer.{FitCounts};
@@ -12,7 +15,7 @@ use validate::Validation;
 
 // How many numbers each buffer gets.
 #[repr(C)]
-#[derive(Drop)]
+#[derive(Clone, Copy)]
 pub struct Counted {
     pub vertices: u32,
     pub normals: u32,
@@ -24,7 +27,7 @@ pub struct Counted {
 }
 
 // How many numbers each lent buffer holds.
-#[derive(Drop)]
+#[derive(Clone, Copy)]
 pub struct Lengths {
     pub vertices: usize,
     pub normals: usize,
@@ -36,21 +39,21 @@ pub struct Lengths {
 }
 
 // What Measure and Build answer: by which row the call is refused and the object named, or the counts.
-#[derive(Drop)]
+#[derive(Clone, Copy)]
 pub enum Answered {
     Refused(Refusal, u32),
     Counts(Counted),
 }
 
 // How many numbers of the vertices and of the indices Build has written.
-#[derive(Drop)]
+#[derive(Clone, Copy)]
 pub struct MeshLengths {
     pub vertices: usize,
     pub indices: usize,
 }
 
 // What Build and Validate answer together.
-#[derive(Drop)]
+#[derive(Clone, Copy)]
 pub struct JudgedBuild {
     pub answer: Answered,
     pub validation: Validation,
@@ -58,7 +61,7 @@ pub struct JudgedBuild {
 
 // The refusal, 0 where there is none, the object named, and the counts.
 #[repr(C)]
-#[derive(Drop)]
+#[derive(Clone, Copy)]
 pub struct Answer {
     pub refusal: u32,
     pub object: u32,

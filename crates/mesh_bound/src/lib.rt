@@ -1,5 +1,7 @@
 // The most that one object can come to, told by the header of its record alone.
 
+#![tactic(auto)]
+
 ghost use Rattle.std.specs.Prelude.{◌≡◌, cond, ◌+◌, ◌-◌, ◌≤◌};
 ghost use Rattle.std.specs.Float.Ieee.{lt};
 ghost use Rattle.float.specs.Number.{zerof};
@@ -10,7 +12,7 @@ ghost use Rattle.mesh_bound.specs.Contract.Groups.{FewOfBoth};
 use object::Extent;
 
 // The most vertices, triangles, spans and log entries.
-#[derive(Drop)]
+#[derive(Clone, Copy)]
 pub struct Most {
     pub vertices: u32,
     pub triangles: u32,
@@ -19,7 +21,7 @@ pub struct Most {
 }
 
 // All objects, those with lids, and the others: measuring a lid takes cutting it.
-#[derive(Drop)]
+#[derive(Clone, Copy)]
 pub enum Group {
     All,
     Lids,
@@ -27,7 +29,7 @@ pub enum Group {
 }
 
 // Whether objects are measured, by drawing them, or counted at the most that their headers allow.
-#[derive(Drop)]
+#[derive(Clone, Copy)]
 pub enum Counting {
     Exact,
     Highest,
@@ -37,7 +39,8 @@ pub enum Counting {
 pub fn of_shape(vertices: u32, triangles: u32, entries: u32) -> Most
     ensures { result ≡ of_shape vertices triangles entries }
 {
-    if triangles == 0 {
+    let kept = triangles;
+    if kept == 0 {
         return Most {
             vertices,
             triangles,

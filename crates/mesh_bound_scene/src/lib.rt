@@ -1,6 +1,9 @@
 // The most that the objects of an accepted scene can come to, told by the headers of their records
 // alone, and what they come to, measured. Objects with lids and those without can be summed apart:
 // measuring lids takes far longer, and Build leaves it to last.
+
+#![tactic(auto)]
+
 ghost use Rattle.std.specs.Prelude.{◌≡◌, List, ℕ};
 ghost use Rattle.object.specs.Object.{Object};
 ghost use Rattle.scene_field.specs.Layout.{most_bytes, most_objects};
@@ -78,7 +81,9 @@ fn bound_at(s: &[u8], i: usize, body: Body, limit: f32, group: Group, counting: 
     requires { CanDraw s.now i body 0 }
     ensures { result ≡ bound_in group counting limit (shape_of s.now i body) }
 {
-    if !in_group(body, group) {
+    let inside = in_group(body, group);
+    let outside = !inside;
+    if outside {
         return Most {
             vertices: 0,
             triangles: 0,

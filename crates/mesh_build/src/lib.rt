@@ -1,5 +1,7 @@
 // Build: tests the room, by the most that the objects can come to or else measured, and then writes.
 
+#![tactic(auto)]
+
 mod pass;
 
 ghost use Rattle.std.specs.Prelude.{◌≡◌, ◌≤◌};
@@ -25,7 +27,7 @@ use refusal::Refusal;
 use scene::scenes::Checked;
 
 // What is to be done before a buffer is touched: refuse, or write so many objects.
-#[derive(Drop)]
+#[derive(Clone, Copy)]
 pub enum Plan {
     Refuse(Refusal, u32),
     Write(u32),

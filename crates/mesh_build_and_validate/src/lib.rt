@@ -1,4 +1,7 @@
 // Build, and then Validate on the measured first numbers of the buffers.
+
+#![tactic(auto)]
+
 ghost use Rattle.std.specs.Prelude.{◌≡◌, List};
 ghost use Rattle.float.specs.Number.{min_area};
 ghost use Rattle.object.specs.Object.{Object};

@@ -1,6 +1,8 @@
 // Measure: for each buffer the count of numbers that Build will write; and a bound on it, from the
 // headers of the records alone.
 
+#![tactic(auto)]
+
 pub mod room;
 
 ghost use Rattle.std.specs.Prelude.{◌≡◌};

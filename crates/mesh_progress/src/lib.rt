@@ -1,5 +1,7 @@
 // How far the pass over the records has come.
 
+#![tactic(auto)]
+
 pub mod records;
 
 ghost use Rattle.std.specs.Prelude.{◌≡◌, ◌*◌, ◌≤◌};
@@ -14,7 +16,7 @@ use mesh_answer::{Counted, numbers_for};
 use shape::Drawn;
 
 // Where the next record begins, and what the objects before it came to.
-#[derive(Drop)]
+#[derive(Clone, Copy)]
 pub struct Progress {
     pub at: usize,
     pub objects: u32,
@@ -34,7 +36,7 @@ pub const BEGINNING: Progress = Progress {
 };
 
 // The places in the lent buffers from which an object's tails are lent on.
-#[derive(Drop)]
+#[derive(Clone, Copy)]
 pub struct Starts {
     pub vertices: usize,
     pub normals: usize,

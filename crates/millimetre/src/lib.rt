@@ -1,4 +1,7 @@
 // A coordinate in whole millimetres.
+
+#![tactic(auto)]
+
 ghost use Rattle.std.specs.Prelude.{◌≡◌, map, ◌≤◌, length};
 ghost use Rattle.lists.specs.Each.{Each};
 ghost use Rattle.lists.specs.Loops.{over};

@@ -5,8 +5,6 @@ use lib.IntN.{pos}
 use lib.Ieee.{Float, fin, binary32, to_bits}
 use Prim.Native.Nat.{ℕ}
 use mathlib.Core.List.{List, [], ◌∷◌}
-use Rattle.coords_vector.specs.declared.Vector.{Vector}
-use Rattle.object.specs.declared.Orientation.{Orientation}
 use Rattle.object.specs.declared.Pair.{Pair}
 use Rattle.object.specs.Object.{frame}
 use Rattle.float.proofs.Computes.{computes as float-computes}

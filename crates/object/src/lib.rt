@@ -1,4 +1,7 @@
 // The objects of a scene, as object.rs has them: see specs/Object.antt.
+
+#![tactic(auto)]
+
 use coords::Point;
 
 // The limits of an outline: its holes, and its corners with those of its holes.
@@ -7,28 +10,28 @@ pub const MOST_HOLES: usize = 32;
 pub const MOST_CORNERS: usize = 512;
 
 // One corner of an outline or one edge of a section.
-#[derive(Drop)]
+#[derive(Clone, Copy)]
 pub struct Corner {
     pub base: Point,
     pub top: Point,
 }
 
 // One cross-section of a sweep.
-#[derive(Drop)]
+#[derive(Clone, Copy)]
 pub struct Section {
     pub left: Corner,
     pub right: Corner,
 }
 
 // The sine and the cosine of an angle.
-#[derive(Drop)]
+#[derive(Clone, Copy)]
 pub struct Pair {
     pub sin: f64,
     pub cos: f64,
 }
 
 // A solid's heading, pitch and roll.
-#[derive(Drop)]
+#[derive(Clone, Copy)]
 pub struct Orientation {
     pub heading: Pair,
     pub pitch: Pair,
@@ -36,7 +39,7 @@ pub struct Orientation {
 }
 
 // The volume of a solid: length, width and height, or radius and height.
-#[derive(Drop)]
+#[derive(Clone, Copy)]
 pub enum Extent {
     Box(f32, f32, f32),
     Cylinder(f32, f32),

@@ -1,4 +1,7 @@
 // The frame of a solid.
+
+#![tactic(auto)]
+
 ghost use Rattle.std.specs.Prelude.{◌≡◌};
 ghost use Rattle.object.specs.Object.{frame};
 

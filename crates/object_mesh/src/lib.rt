@@ -1,3 +1,5 @@
 // The library that C and Rust link.
 
+#![tactic(auto)]
+
 pub mod c;

@@ -1,17 +1,17 @@
 -- Words and numbers written one behind the other. Assumes nothing.
-use mathlib.Core.Path.{◌≡◌, refl, sym, ap, ◌∙◌, subst}
+use mathlib.Core.Path.{◌≡◌, sym, subst}
 use mathlib.Core.List.{List, [], ◌∷◌, ◌++◌}
-use Prim.Native.Nat.{ℕ, suc, ◌+◌, ◌≤◌, ◌<◌, ◌^◌}
+use Prim.Native.Nat.{ℕ, ◌+◌, ◌≤◌, ◌<◌, ◌^◌}
 use native.Mathlib.Nat.{add-zero, add_assoc, lt_of_lt_of_le}
 use native.Mathlib.Numerals.{add-one}
 use native.Mathlib.Omega.{arith}
 use lib.Dec.{lit≤}
-use lib.ListN.{length, get_or, set, drop, length-append, drop_of_length-le}
+use lib.ListN.{length, get_or, set, drop, drop_of_length-le}
 use lib.Seq.{drop-cons}
 use Rattle.decimal.specs.Decimals.{decimal}
-use Rattle.decimal.specs.Contract.Texts.{HasRoom, Wrote}
+use Rattle.decimal.specs.Contract.Texts.{Wrote}
 use Rattle.decimal.proofs.Digits.{size_most}
-use Rattle.decimal.proofs.Texts.{wrote_byte, then, same_length, Writing, writing_start, writing_next, writing_end}
+use Rattle.decimal.proofs.Texts.{wrote_byte, then, Writing, writing_start, writing_next, writing_end}
 
 -- ---- a word, byte by byte
 

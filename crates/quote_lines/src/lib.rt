@@ -1,5 +1,8 @@
 // The lines of a quote, written into lent text: document 01, section 8. Each function answers the
 // next place. Every number is a u32, so that a line's greatest length is known by its words.
+
+#![tactic(auto)]
+
 ghost use Rattle.std.specs.Prelude.{◌≡◌, ◌++◌, ◌+◌, ◌≤◌, length};
 ghost use Rattle.decimal.specs.Decimals.{decimal};
 ghost use Rattle.decimal.specs.Contract.Texts.{HasRoom, Wrote};

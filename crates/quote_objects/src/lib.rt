@@ -1,4 +1,7 @@
 // The objects' lines of a quote, written into lent text: document 01, section 8.
+
+#![tactic(auto)]
+
 ghost use Rattle.std.specs.Prelude.{◌*◌, ◌≤◌, length};
 ghost use Rattle.lists.specs.Loops.{join};
 ghost use Rattle.scene.specs.Scene.{scene};

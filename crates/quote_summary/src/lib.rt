@@ -1,5 +1,8 @@
 // What the lines of a quote but the objects' are written from, and the account, by Build and
 // Validate.
+
+#![tactic(auto)]
+
 ghost use Rattle.std.specs.Prelude.{◌≡◌, ◌≤◌, length};
 ghost use Rattle.mesh_answer.specs.Answers.{answer_from};
 ghost use Rattle.quote_summary.specs.Contract.Summaries.{summary_of, Summed};
@@ -13,7 +16,7 @@ use validate::Validation;
 // The account of every scene of at most 4,096 bytes.
 pub type Account = [u32; 1488];
 
-#[derive(Drop)]
+#[derive(Clone, Copy)]
 pub struct Summary {
     pub refusal: u32,
     pub objects: usize,

@@ -1,5 +1,8 @@
 // The quote of a scene: document 01, section 8. The text is written whole into a lent array that is
 // long enough for every scene of at most 4,096 bytes, and so is every working buffer.
+
+#![tactic(auto)]
+
 ghost use Rattle.std.specs.Prelude.{◌≡◌, ◌≤◌, length};
 ghost use Rattle.lists.specs.Loops.{over};
 ghost use Rattle.scene.specs.Scene.{scene, accepted};
@@ -43,7 +46,8 @@ fn put_scene(text: &mut [u8], s: &[u8]) -> usize
 pub fn quote(s: &[u8], text: &mut Text) -> usize
     ensures { (result ≡ length (quote_text s.now)) × (text.new ≡ over (quote_text s.now) text.old) × (result ≤ 25743) }
 {
-    if 4096 < s.len() {
+    let most = 4096;
+    if most < s.len() {
         return put_refused(text, 1);
     }
     put_scene(text, s)

@@ -1,5 +1,5 @@
 -- Every refusal has a number above 0, of at most two digits. Assumes nothing.
-use Prim.Native.Nat.{ℕ, ◌≤◌, ◌<◌}
+use Prim.Native.Nat.{◌≤◌, ◌<◌}
 use native.Mathlib.Omega.{arith}
 use Rattle.refusal.specs.declared.Refusal.{Refusal}
 use Rattle.refusal.specs.declared.Refusal.TheVariants.{Length, Trailer, Start, Past, Kind, Counts, Numbers, ShortVertices, ShortIndices, ShortRecords, PartialVertex, ShortMillimetres}

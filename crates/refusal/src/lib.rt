@@ -1,10 +1,13 @@
 // The refusals of every call: document 01, section 2, and the change requests of document 02. A further one is a variant here, a line in each
 // list of numbers, and a line of the law about them.
+
+#![tactic(auto)]
+
 ghost use Rattle.std.specs.Prelude.{◌≡◌};
 ghost use Rattle.refusal.specs.Rows.{number_of};
 
 // Why a call is refused, by what is checked.
-#[derive(Drop)]
+#[derive(Clone, Copy)]
 pub enum Refusal {
     // The scene's length.
     Length,

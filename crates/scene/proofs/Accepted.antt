@@ -176,12 +176,12 @@ module _ (s : List ℕ) where
 
   -- ---- the scene
   abbrev NearScene : Scene → Type 0
-  NearScene (refused number object) = Unit {0}
+  NearScene (refused _ _) = Unit {0}
   NearScene (accepted os) = Each (λ (o : Object). NearShape o.shape) os
 
   prepend_near : (o : Object) (sc : Scene) → NearShape o.shape → NearScene sc → NearScene (prepend o sc)
   unfolding prepend
-  prepend_near o (refused number object) m n = tt
+  prepend_near o (refused _ _) m n = tt
   prepend_near o (accepted os) m n = (m, n)
 
   records_near : (e n k i : ℕ) → NearScene (records_from s e n k i)
@@ -190,7 +190,7 @@ module _ (s : List ℕ) where
   records_near e (suc n) k i = either NearScene (eqb (u32_at s (e + 4 * k)) i) {y = refused Start k} (go (record_at s e i) (record_near e i) (λ next. records_near e n (suc k) next)) tt
     where
       go : (r : Record) → NearRecord r → ((next : ℕ) → NearScene (records_from s e n (suc k) next)) → NearScene (record_then k (λ next. records_from s e n (suc k) next) r)
-      go (bad number) m h = tt
+      go (bad _) m h = tt
       go (good o next) m h = prepend_near o (records_from s e n (suc k) next) m (h next)
 
   scene_near : NearScene (scene s)

@@ -1,5 +1,5 @@
 -- A record that the definition does not refuse is the one that its header tells of, its counts within their limits, and it ends before the trailer. Assumes nothing.
-use mathlib.Core.Path.{◌≡◌, refl, ap, ◌∙◌, subst}
+use mathlib.Core.Path.{◌≡◌, refl, ◌∙◌, subst}
 use Prim.Native.Nat.{ℕ, ◌+◌, ◌-◌, ◌*◌, ◌≤◌}
 use native.Mathlib.Omega.{arith}
 use mathlib.Core.Bool.{Bool, true, false, not, cond}
@@ -7,7 +7,6 @@ use mathlib.Core.List.{List}
 use lib.ListN.{get_or}
 use lib.Dec.{ltb, eqb}
 use borrow.Author.Tests.{ltb-false}
-use Rattle.lists.specs.Loops.{sum_of}
 use Rattle.lists.proofs.Loops.{either, either_by}
 use Rattle.object.specs.declared.Extent.{Extent}
 use Rattle.object.specs.declared.Extent.TheVariants.{Unsized}
@@ -16,7 +15,7 @@ use Rattle.refusal.specs.declared.Refusal.TheVariants.{Past, Kind, Counts, Numbe
 use Rattle.scene.specs.declared.headers.Body.{Body}
 use Rattle.scene.specs.declared.headers.Body.TheVariants.{Solid, Outline, Sweep}
 use Rattle.scene_field.specs.Layout.{most_holes, most_corners, most_sections, corner_bytes, section_bytes, position_bytes, orientation_bytes, sizes_from}
-use Rattle.scene_field.specs.Fields.{u16_at, u32_at, box_at, cylinder_at, counts_at, all32}
+use Rattle.scene_field.specs.Fields.{u16_at, u32_at, box_at, cylinder_at, all32}
 use Rattle.scene.specs.Scene.{Record, bad, good, rest, solid_at, outline_corners, outline_of, outline_at, sweep_at, kind_at, record_at}
 use Rattle.scene.specs.Contract.Headers.{solid_from, corner_count, outline_from, volume_size, body_size, body_at, shape_of, object_of, header_at, Limits}
 

@@ -2,7 +2,7 @@
 use object::Extent;
 
 // Where in the scene's bytes a solid's position, orientation and sizes stand, and the sizes.
-#[derive(Drop)]
+#[derive(Clone, Copy)]
 pub struct SolidAt {
     pub position: usize,
     pub orientation: usize,
@@ -12,7 +12,7 @@ pub struct SolidAt {
 
 // What a record holds behind its kind and id. Positions, orientations, corners and sections stay in
 // the scene: `shape_of` says where.
-#[derive(Drop)]
+#[derive(Clone, Copy)]
 pub enum Body {
     Solid(SolidAt),
     // `corners` counts the outer ones and those of the holes.
@@ -29,7 +29,7 @@ pub enum Body {
 }
 
 // The next record starts `size` bytes behind the start of this one.
-#[derive(Drop)]
+#[derive(Clone, Copy)]
 pub struct Header {
     pub id: u32,
     pub body: Body,

@@ -2,7 +2,7 @@
 use refusal::Refusal;
 
 // Where a record ends, or by which row it is refused.
-#[derive(Drop)]
+#[derive(Clone, Copy)]
 pub enum RecordEnd {
     Bad(Refusal),
     At(usize),

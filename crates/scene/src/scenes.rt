@@ -1,7 +1,7 @@
 // How the check of a scene ends.
 use refusal::Refusal;
 
-#[derive(Drop)]
+#[derive(Clone, Copy)]
 pub enum Checked {
     // By which row, and the object named.
     Refused(Refusal, u32),

@@ -1,5 +1,7 @@
 // Checks a whole scene.
 
+#![tactic(auto)]
+
 mod record;
 
 ghost use Rattle.std.specs.Prelude.{◌≡◌, ◌+◌, ◌*◌, ◌≤◌, length};
@@ -53,7 +55,8 @@ pub fn check_scene(s: &[u8]) -> Checked
         return Checked::Refused(Refusal::Length, 0);
     }
     let n = u32_in(s, len - 4);
-    if MOST_OBJECTS < n {
+    let most = MOST_OBJECTS;
+    if most < n {
         return Checked::Refused(Refusal::Trailer, 0);
     }
     let size = 4 * (n as usize) + 4;

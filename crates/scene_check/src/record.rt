@@ -73,7 +73,8 @@ fn check_outline(s: &[u8], e: usize, i: usize) -> RecordEnd
     }
     let outer = u16_in(s, i);
     let holes = u16_in(s, i + 2);
-    if MOST_HOLES < holes as usize {
+    let most = MOST_HOLES;
+    if most < holes as usize {
         return RecordEnd::Bad(Refusal::Counts);
     }
     if e - i < 4 + 2 * (holes as usize) {
@@ -122,7 +123,8 @@ pub fn check_record(s: &[u8], e: usize, i: usize) -> RecordEnd
     if e < i {
         return RecordEnd::Bad(Refusal::Past);
     }
-    if e - i < 5 {
+    let least = 5;
+    if e - i < least {
         return RecordEnd::Bad(Refusal::Past);
     }
     check_kind(s, e, i + 5, s[i])

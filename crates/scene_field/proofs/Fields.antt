@@ -9,7 +9,7 @@ use Rattle.coords.specs.declared.Point.{Point}
 use Rattle.coords.specs.Coords.{point}
 use Rattle.object.specs.declared.Corner.{Corner}
 use Rattle.object.specs.declared.Pair.{Pair}
-use Rattle.scene_field.specs.Fields.{u16_at, u32_at, u64_at, f32_at, f64_at, point_at, corner_at, section_at, pair_at, orientation_at}
+use Rattle.scene_field.specs.Fields.{u16_at, u32_at, f32_at, f64_at, point_at, corner_at, section_at, pair_at, orientation_at}
 
 pub further : (n i k : ℕ) → n ≤ i → n ≤ i + k
 further n i k h = omega arith

@@ -1,5 +1,7 @@
 // Numbers at a place of the scene's bytes, little-endian. Whole numbers stand here.
 
+#![tactic(auto)]
+
 pub mod allowed;
 
 ghost use Rattle.std.specs.Prelude.{◌≡◌, ◌+◌, ◌≤◌, length};

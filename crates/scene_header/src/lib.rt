@@ -1,6 +1,8 @@
 // What a record of an accepted scene holds, read where it lies. Nothing is tested: the checking
 // pass has done that, and past the end every byte counts as 0.
 
+#![tactic(auto)]
+
 pub mod hole_counts;
 
 ghost use Rattle.std.specs.Prelude.{◌≡◌, ◌+◌, ◌≤◌, ◌<◌, ◌^◌, length};

@@ -10,7 +10,8 @@ use scene_field::{u32_at, u32_in, u64_in};
 fn f32_of(b: u32) -> f32
     ensures { result ≡ of_bits binary32 b }
 {
-    if 0x7f80_0000 < b % 0x8000_0000 {
+    let infinity = 0x7f80_0000;
+    if infinity < b % 0x8000_0000 {
         return 0.0 / 0.0;
     }
     f32::from_bits(b)

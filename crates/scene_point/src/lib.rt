@@ -1,5 +1,7 @@
 // Points, corners, sections and orientations at a place of the scene's bytes, where the bytes are there.
 
+#![tactic(auto)]
+
 pub mod floats;
 
 ghost use Rattle.std.specs.Prelude.{◌≡◌, ◌+◌, ◌≤◌, length};

@@ -1,4 +1,7 @@
 // The faces of a box: `cuboid` of object_mesh.rs.
+
+#![tactic(auto)]
+
 ghost use Rattle.std.specs.Prelude.{◌≡◌, [], ◌∷◌, ℕ};
 ghost use Rattle.float.specs.Number.{zerof, onef};
 ghost use Rattle.object.specs.Object.{frame};
@@ -15,7 +18,7 @@ use object::Orientation;
 use shape::StageTallies;
 
 // A box's place, turn and sizes.
-#[derive(Drop)]
+#[derive(Clone, Copy)]
 struct Placed {
     origin: Point,
     turn: Orientation,
@@ -25,7 +28,7 @@ struct Placed {
 }
 
 // An axis of a solid's own frame.
-#[derive(Drop)]
+#[derive(Clone, Copy)]
 enum Axis {
     X,
     Y,
@@ -33,7 +36,7 @@ enum Axis {
 }
 
 // A face of four points: the points in order, and where it faces.
-#[derive(Drop)]
+#[derive(Clone, Copy)]
 struct Quad {
     a: Point,
     b: Point,
@@ -97,7 +100,7 @@ fn box_face(b: Placed, axis: Axis, side: f32, out: Vector) -> Quad
 }
 
 // What was written and counted after the face along an axis, and after the one against it.
-#[derive(Drop)]
+#[derive(Clone, Copy)]
 struct Sides {
     along: Tally,
     against: Tally,

@@ -1,4 +1,7 @@
 // The faces of a cylinder: `cylinder` of object_mesh.rs.
+
+#![tactic(auto)]
+
 ghost use Rattle.std.specs.Prelude.{◌≡◌, [], ◌∷◌, ◌+◌, get_or, length};
 ghost use Rattle.lists.specs.Loops.{list};
 ghost use Rattle.float.specs.Number.{zerof};

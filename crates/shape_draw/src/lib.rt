@@ -1,4 +1,7 @@
 // One object, drawn from its record's place in the scene's bytes.
+
+#![tactic(auto)]
+
 ghost use Rattle.std.specs.Prelude.{◌≡◌, ◌+◌, ◌*◌, ◌≤◌, ◌<◌, ◌^◌, length};
 ghost use Rattle.scene_field.specs.Layout.{most_sections, section_bytes};
 ghost use Rattle.scene.specs.Contract.Headers.{sections_shape, shape_of};

@@ -1,4 +1,7 @@
 // Outlines, `outline` of object_mesh.rs, with their price.
+
+#![tactic(auto)]
+
 ghost use Rattle.std.specs.Prelude.{◌≡◌, cond, ◌+◌, ◌-◌, ◌*◌, ◌≤◌, ◌<◌, ◌^◌};
 ghost use Rattle.coords_vector.specs.Vectors.{zero_v};
 ghost use Rattle.scene_field.specs.Layout.{most_corners};

@@ -1,6 +1,8 @@
 // The corners of an outline where they lie in the scene's bytes: the place of the one after a corner, and
 // whether they have height.
 
+#![tactic(auto)]
+
 pub mod normal;
 
 ghost use Rattle.std.specs.Prelude.{◌≡◌, not, ◌+◌, ◌*◌, ◌<◌, ◌≤◌, ◌^◌, length};
@@ -15,7 +17,7 @@ use scene_point::corner_at;
 
 // An outline where it lies: its counts are at `i` and its corners, n in all, at `at`. `lid` is the
 // normal of its lid, and `high` tells whether a closed one has a floor.
-#[derive(Drop)]
+#[derive(Clone, Copy)]
 pub struct OutlineAt {
     pub i: usize,
     pub at: usize,

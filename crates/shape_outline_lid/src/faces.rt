@@ -33,14 +33,14 @@ fn put_points(s: &[u8], at: usize, n: u32, points: &mut [f32])
 }
 
 // What was written and counted after the lid, and after the floor.
-#[derive(Drop)]
+#[derive(Clone, Copy)]
 struct Lids {
     lid: Tally,
     floor: Tally,
 }
 
 // The same, with the outline's price and the entries of its log.
-#[derive(Drop)]
+#[derive(Clone, Copy)]
 pub struct Capped {
     pub lid: Tally,
     pub floor: Tally,

@@ -1,5 +1,7 @@
 // The walls of a ring of an outline, `walls` of object_mesh.rs: one from each corner to the next.
 
+#![tactic(auto)]
+
 pub mod holes;
 
 ghost use Rattle.std.specs.Prelude.{◌*◌, ◌≤◌};

@@ -1,4 +1,7 @@
 // An end of a prism: a ring of sixteen points as one face.
+
+#![tactic(auto)]
+
 ghost use Rattle.std.specs.Prelude.{◌≡◌};
 ghost use Rattle.coords.specs.Buffers.{vertex_numbers};
 ghost use Rattle.face.specs.Contract.Drawing.{Countable, DrawsFace};

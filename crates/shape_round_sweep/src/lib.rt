@@ -1,6 +1,8 @@
 // `round_sweep` of object_mesh.rs: a tube through the ellipses inscribed in the sections, and a cap at
 // each end. Each ellipse is computed once; two neighbouring ones and the first are held.
 
+#![tactic(auto)]
+
 mod ellipses;
 
 ghost use Rattle.std.specs.Prelude.{◌≡◌, ◌+◌, ◌*◌, ◌≤◌, length};

@@ -4,7 +4,7 @@ ghost use Rattle.shape_section.specs.Contract.Places.{EndPlaces};
 
 // The places of a sweep's last section and of those beside its first and its last one: between these
 // `end_directions` of object_mesh.rs takes its directions. One section alone stands beside itself.
-#[derive(Drop)]
+#[derive(Clone, Copy)]
 pub struct Places {
     pub second: usize,
     pub last: usize,

@@ -1,5 +1,7 @@
 // The sections of a sweep, told apart as `sweep` has it.
 
+#![tactic(auto)]
+
 pub mod ends;
 
 ghost use Rattle.std.specs.Prelude.{◌≡◌};

@@ -1,4 +1,7 @@
 // A solid drawn from its record: a box, a cylinder, or nothing where it has no size.
+
+#![tactic(auto)]
+
 ghost use Rattle.std.specs.Prelude.{◌≡◌};
 ghost use Rattle.scene_field.specs.Fields.{point_at};
 ghost use Rattle.scene.specs.Contract.Headers.{orientation_of, SolidIn};

@@ -1,5 +1,8 @@
 // `sweep` of object_mesh.rs: the faces between neighbouring sections, and a cap at each end. The
 // sections are decoded two at a time where they lie in the scene.
+
+#![tactic(auto)]
+
 ghost use Rattle.std.specs.Prelude.{◌≡◌, ◌+◌, ◌*◌, ◌≤◌, length};
 ghost use Rattle.std.specs.Float.Ieee.{neg};
 ghost use Rattle.float.specs.Number.{zerof};

@@ -1,15 +1,20 @@
 // Reads scenes from the file `scenes` and prints what the check says of each, one to a line. The
 // file and the expected lines are made by compare/refusals.py, which tells the file's layout.
-ghost use Rattle.std.specs.Prelude.{◌≤◌, length};
 
-use libc::STDOUT_FILENO;
+#![tactic(auto)]
+
+ghost use Rattle.std.specs.Prelude.{◌≤◌, length, IfOk};
+ghost use Rattle.std.specs.Io.{ReadsAtMost};
+
 use refusal::refusal_number;
 use scene::scenes::Checked;
 use scene_check::check_scene;
+use std::io::Read;
+use std::{fs, io};
 use test_words::Next;
 
 // A piece of a scene: its kind and three numbers.
-#[derive(Drop)]
+#[derive(Clone, Copy)]
 struct Piece {
     kind: u32,
     count: u32,
@@ -17,53 +22,69 @@ struct Piece {
     step: u32,
 }
 
-#[derive(Drop)]
+#[derive(Clone, Copy)]
 enum Found {
     Piece(Piece),
     Nothing,
 }
 
-fn next_word(fd: i32) -> Next {
-    let mut four = [0u8; 4];
-    let n = io::read_full(fd, &mut four);
-    test_words::word(&four, n)
+// Reads until `to` is full or the input ends, and answers how many bytes it put at the start of
+// `to`.
+fn read_full(input: &mut impl Read, to: &mut [u8]) -> io::Result<usize>
+    ensures { ReadsAtMost result to.new }
+{
+    let mut done = 0;
+    while done < to.len() {
+        let n = input.read(&mut to[done..])?;
+        if n == 0 {
+            break;
+        }
+        done += n;
+    }
+    Ok(done)
 }
 
-fn next_piece(fd: i32) -> Found {
-    let Next::Word(kind) = next_word(fd) else {
-        return Found::Nothing;
+fn next_word(input: &mut impl Read) -> io::Result<Next> {
+    let mut four = [0u8; 4];
+    let n = read_full(input, &mut four)?;
+    Ok(test_words::word(&four, n))
+}
+
+fn next_piece(input: &mut impl Read) -> io::Result<Found> {
+    let Next::Word(kind) = next_word(input)? else {
+        return Ok(Found::Nothing);
     };
-    let Next::Word(count) = next_word(fd) else {
-        return Found::Nothing;
+    let Next::Word(count) = next_word(input)? else {
+        return Ok(Found::Nothing);
     };
-    let Next::Word(first) = next_word(fd) else {
-        return Found::Nothing;
+    let Next::Word(first) = next_word(input)? else {
+        return Ok(Found::Nothing);
     };
-    let Next::Word(step) = next_word(fd) else {
-        return Found::Nothing;
+    let Next::Word(step) = next_word(input)? else {
+        return Ok(Found::Nothing);
     };
-    Found::Piece(Piece {
+    Ok(Found::Piece(Piece {
         kind,
         count,
         first,
         step,
-    })
+    }))
 }
 
 // The next n bytes of the file, from place `at` on. Each of these answers the place behind what it
 // wrote; where that does not fit it writes nothing and answers 0.
-fn put_bytes(fd: i32, to: &mut [u8], at: usize, n: usize) -> usize
-    ensures { result ≤ length to.old }
+fn put_bytes(input: &mut impl Read, to: &mut [u8], at: usize, n: usize) -> io::Result<usize>
+    ensures { IfOk result (λ end. end ≤ length to.old) }
 {
     if to.len() < at {
-        return 0;
+        return Ok(0);
     }
     if to.len() - at < n {
-        return 0;
+        return Ok(0);
     }
     let end = at + n;
-    io::read_full(fd, &mut to[at..end]);
-    end
+    read_full(input, &mut to[at..end])?;
+    Ok(end)
 }
 
 // n bytes, each the one that stands `back` places before it.
@@ -122,84 +143,96 @@ fn put_steps(to: &mut [u8], at: usize, n: usize, first: u32, step: u32) -> usize
     at + 4 * n
 }
 
-fn put_piece(fd: i32, to: &mut [u8], at: usize, p: Piece) -> usize
-    ensures { result ≤ length to.old }
+fn put_piece(input: &mut impl Read, to: &mut [u8], at: usize, p: Piece) -> io::Result<usize>
+    ensures { IfOk result (λ end. end ≤ length to.old) }
 {
     let n = p.count as usize;
     if p.kind == 0 {
-        return put_bytes(fd, to, at, n);
+        return put_bytes(input, to, at, n);
     }
     if p.kind == 1 {
-        return put_again(to, at, n, p.first as usize);
+        return Ok(put_again(to, at, n, p.first as usize));
     }
-    put_steps(to, at, n, p.first, p.step)
+    Ok(put_steps(to, at, n, p.first, p.step))
 }
 
 // The length of the scene that the pieces make.
-fn put_scene(fd: i32, to: &mut [u8], pieces: u32) -> usize
-    ensures { result ≤ length to.old }
+fn put_scene(input: &mut impl Read, to: &mut [u8], pieces: u32) -> io::Result<usize>
+    ensures { IfOk result (λ end. end ≤ length to.old) }
 {
     let mut at = 0;
     let mut k = 0;
     while k < pieces {
-        let Found::Piece(p) = next_piece(fd) else {
-            return 0;
+        let Found::Piece(p) = next_piece(input)? else {
+            return Ok(0);
         };
-        at = put_piece(fd, to, at, p);
+        at = put_piece(input, to, at, p)?;
         k += 1;
     }
-    at
+    Ok(at)
 }
 
-fn write(text: &[u8]) {
-    io::write_all(STDOUT_FILENO, text);
+fn write(rt: &impl Print, text: &[u8]) -> io::Result<()> {
+    rt.write_all(text)
 }
 
-fn say(c: Checked) {
+fn say(rt: &impl Print, c: Checked) -> io::Result<()> {
     match c {
         Checked::Accepted(n) => {
-            write(b": accepted ");
-            io::print_decimal(STDOUT_FILENO, n as u64);
+            write(rt, b": accepted ")?;
+            print!(rt; "{n}")?;
         }
         Checked::Refused(f, object) => {
-            write(b": refused ");
-            io::print_decimal(STDOUT_FILENO, refusal_number(f) as u64);
-            write(b" object ");
-            io::print_decimal(STDOUT_FILENO, object as u64);
+            write(rt, b": refused ")?;
+            let number = refusal_number(f);
+            print!(rt; "{number}")?;
+            write(rt, b" object ")?;
+            print!(rt; "{object}")?;
         }
     }
-    write(b"\n");
+    write(rt, b"\n")
 }
 
 // One scene: whether there was one.
-fn one(fd: i32, label: &mut [u8], to: &mut [u8]) -> bool {
-    let Next::Word(size) = next_word(fd) else {
-        return false;
+fn one(
+    rt: &impl Print,
+    input: &mut impl Read,
+    label: &mut [u8],
+    to: &mut [u8],
+) -> io::Result<bool> {
+    let Next::Word(size) = next_word(input)? else {
+        return Ok(false);
     };
-    let Next::Word(pieces) = next_word(fd) else {
-        return false;
+    let Next::Word(pieces) = next_word(input)? else {
+        return Ok(false);
     };
-    let named = put_bytes(fd, label, 0, size as usize);
-    write(&label[..named]);
-    let end = put_scene(fd, to, pieces);
-    say(check_scene(&to[..end]));
-    true
+    let named = put_bytes(input, label, 0, size as usize)?;
+    write(rt, &label[..named])?;
+    let end = put_scene(input, to, pieces)?;
+    say(rt, check_scene(&to[..end]))?;
+    Ok(true)
 }
 
 // The arrays come by reference to arrays, whose length their type tells.
-fn all(fd: i32, label: &mut [u8; 64], to: &mut [u8; 1048576]) {
+fn all(
+    rt: &impl Print,
+    input: &mut impl Read,
+    label: &mut [u8; 64],
+    to: &mut [u8; 1048576],
+) -> io::Result<()> {
     let mut turns: u32 = 0;
     while turns < 100000 {
-        if !one(fd, label, to) {
-            return;
+        if !one(rt, input, label, to)? {
+            return Ok(());
         }
         turns += 1;
     }
+    Ok(())
 }
 
-fn main() {
-    let fd = os::open_read(b"scenes");
+fn main(rt: HostRuntime) -> io::Result<()> {
+    let mut scenes = fs::open(&rt, "scenes")?;
     let mut label = [0u8; 64];
     let mut to = [0u8; 1048576];
-    all(fd, &mut label, &mut to);
+    all(&rt, &mut scenes, &mut label, &mut to)
 }

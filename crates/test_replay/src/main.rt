@@ -2,10 +2,15 @@
 // line: the refusal and the object named, or the seven counts of numbers, the FNV-1a 64 hash of what
 // was written to each buffer, and the verdict. A scene is its size and its bytes, sizes in words of
 // four bytes, the lowest first. compare/replay.py makes the file and the expected lines.
-ghost use Rattle.std.specs.Prelude.{◌≡◌, ◌≤◌, length};
 
-use libc::STDOUT_FILENO;
+#![tactic(auto)]
+
+ghost use Rattle.std.specs.Prelude.{◌≡◌, ◌≤◌, length};
+ghost use Rattle.std.specs.Io.{ReadsAtMost};
+
 use mesh_answer::Counted;
+use std::io::Read;
+use std::{fs, io};
 use test_words::Next;
 use validate::{Validation, Verdict};
 
@@ -13,24 +18,40 @@ fn place(x: u32) -> usize {
     x as usize
 }
 
-fn next_word(fd: i32) -> Next {
+// Reads until `to` is full or the input ends, and answers how many bytes it put at the start of
+// `to`.
+fn read_full(input: &mut impl Read, to: &mut [u8]) -> io::Result<usize>
+    ensures { ReadsAtMost result to.new }
+{
+    let mut done = 0;
+    while done < to.len() {
+        let n = input.read(&mut to[done..])?;
+        if n == 0 {
+            break;
+        }
+        done += n;
+    }
+    Ok(done)
+}
+
+fn next_word(input: &mut impl Read) -> io::Result<Next> {
     let mut four = [0u8; 4];
-    let n = io::read_full(fd, &mut four);
-    test_words::word(&four, n)
+    let n = read_full(input, &mut four)?;
+    Ok(test_words::word(&four, n))
 }
 
-fn write(text: &[u8]) {
-    io::write_all(STDOUT_FILENO, text);
+fn write(rt: &impl Print, text: &[u8]) -> io::Result<()> {
+    rt.write_all(text)
 }
 
-fn write_number(n: u32) {
-    write(b" ");
-    io::print_decimal(STDOUT_FILENO, n as u64);
+fn write_number(rt: &impl Print, n: u32) -> io::Result<()> {
+    write(rt, b" ")?;
+    print!(rt; "{n}")
 }
 
-fn write_hash(h: u64) {
-    write(b" ");
-    io::print_hex(STDOUT_FILENO, h, 16);
+fn write_hash(rt: &impl Print, h: u64) -> io::Result<()> {
+    write(rt, b" ")?;
+    print!(rt; "{h:016x}")
 }
 
 // h times the prime 2^40 + 0x1b3, modulo 2^64.
@@ -114,43 +135,44 @@ fn hash_longs(s: &[i64]) -> u64 {
 }
 
 // The hash of the first n.
-fn write_floats(s: &[f32], n: usize) {
+fn write_floats(rt: &impl Print, s: &[f32], n: usize) -> io::Result<()> {
     if n <= s.len() {
-        write_hash(hash_floats(&s[..n]));
+        write_hash(rt, hash_floats(&s[..n]))?;
     }
+    Ok(())
 }
 
-fn write_numbers(s: &[u32], n: usize) {
+fn write_numbers(rt: &impl Print, s: &[u32], n: usize) -> io::Result<()> {
     if n <= s.len() {
-        write_hash(hash_numbers(&s[..n]));
+        write_hash(rt, hash_numbers(&s[..n]))?;
     }
+    Ok(())
 }
 
-fn write_longs(s: &[i64], n: usize) {
+fn write_longs(rt: &impl Print, s: &[i64], n: usize) -> io::Result<()> {
     if n <= s.len() {
-        write_hash(hash_longs(&s[..n]));
+        write_hash(rt, hash_longs(&s[..n]))?;
     }
+    Ok(())
 }
 
-fn write_verdict(v: Validation) {
+fn write_verdict(rt: &impl Print, v: Validation) -> io::Result<()> {
     if let Validation::Judged(w) = v {
         if let Verdict::Ok = w {
-            write(b" ok\n");
-            return;
+            return write(rt, b" ok\n");
         }
         if let Verdict::Empty = w {
-            write(b" empty\n");
-            return;
+            return write(rt, b" empty\n");
         }
     }
-    write(b" other\n");
+    write(rt, b" other\n")
 }
 
-fn refuse(number: u32, object: u32) {
-    write(b"refused");
-    write_number(number);
-    write_number(object);
-    write(b"\n");
+fn refuse(rt: &impl Print, number: u32, object: u32) -> io::Result<()> {
+    write(rt, b"refused")?;
+    write_number(rt, number)?;
+    write_number(rt, object)?;
+    write(rt, b"\n")
 }
 
 fn bytes() -> [u8; 4096]
@@ -177,31 +199,43 @@ fn numbers() -> [u32; 36864]
     [0; 36864]
 }
 
-fn write_counts(c: Counted) {
-    write(b"ok");
-    write_number(c.vertices);
-    write_number(c.normals);
-    write_number(c.indices);
-    write_number(c.spans);
-    write_number(c.account);
-    write_number(c.log);
-    write_number(c.millimetres);
+fn write_counts(rt: &impl Print, c: Counted) -> io::Result<()> {
+    write(rt, b"ok")?;
+    write_number(rt, c.vertices)?;
+    write_number(rt, c.normals)?;
+    write_number(rt, c.indices)?;
+    write_number(rt, c.spans)?;
+    write_number(rt, c.account)?;
+    write_number(rt, c.log)?;
+    write_number(rt, c.millimetres)
 }
 
-fn write_mesh(c: Counted, vertices: &[f32], normals: &[f32], indices: &[u32]) {
-    write_floats(vertices, place(c.vertices));
-    write_floats(normals, place(c.normals));
-    write_numbers(indices, place(c.indices));
+fn write_mesh(
+    rt: &impl Print,
+    c: Counted,
+    vertices: &[f32],
+    normals: &[f32],
+    indices: &[u32],
+) -> io::Result<()> {
+    write_floats(rt, vertices, place(c.vertices))?;
+    write_floats(rt, normals, place(c.normals))?;
+    write_numbers(rt, indices, place(c.indices))
 }
 
-fn write_records(c: Counted, spans: &[u32], account: &[u32], log: &[u32]) {
-    write_numbers(spans, place(c.spans));
-    write_numbers(account, place(c.account));
-    write_numbers(log, place(c.log));
+fn write_records(
+    rt: &impl Print,
+    c: Counted,
+    spans: &[u32],
+    account: &[u32],
+    log: &[u32],
+) -> io::Result<()> {
+    write_numbers(rt, spans, place(c.spans))?;
+    write_numbers(rt, account, place(c.account))?;
+    write_numbers(rt, log, place(c.log))
 }
 
 // One scene, with buffers for every scene of at most 4,096 bytes.
-fn replay(s: &[u8]) {
+fn replay(rt: &impl Print, s: &[u8]) -> io::Result<()> {
     let mut vertices = floats();
     let mut normals = floats();
     let mut indices = numbers();
@@ -223,44 +257,44 @@ fn replay(s: &[u8]) {
     let validation = r.validation;
     let a = answer.numbers();
     if a.refusal != 0 {
-        refuse(a.refusal, a.object);
-        return;
+        return refuse(rt, a.refusal, a.object);
     }
     let c = a.counts;
-    write_counts(c);
-    write_mesh(c, &vertices, &normals, &indices);
-    write_records(c, &spans, &account, &log);
-    write_longs(&millimetres, place(c.millimetres));
-    write_verdict(validation)
+    write_counts(rt, c)?;
+    write_mesh(rt, c, &vertices, &normals, &indices)?;
+    write_records(rt, c, &spans, &account, &log)?;
+    write_longs(rt, &millimetres, place(c.millimetres))?;
+    write_verdict(rt, validation)
 }
 
 // The scene that the next bytes of the file are.
-fn replay_next(fd: i32, scene: &mut [u8]) {
-    io::read_full(fd, scene);
-    replay(scene);
+fn replay_next(rt: &impl Print, input: &mut impl Read, scene: &mut [u8]) -> io::Result<()> {
+    read_full(input, scene)?;
+    replay(rt, scene)
 }
 
 // Whether there was one.
-fn one(fd: i32) -> bool {
-    let Next::Word(size) = next_word(fd) else {
-        return false;
+fn one(rt: &impl Print, input: &mut impl Read) -> io::Result<bool> {
+    let Next::Word(size) = next_word(input)? else {
+        return Ok(false);
     };
     let n = size as usize;
     if 4096 < n {
-        return false;
+        return Ok(false);
     }
     let mut scene = bytes();
-    replay_next(fd, &mut scene[..n]);
-    true
+    replay_next(rt, input, &mut scene[..n])?;
+    Ok(true)
 }
 
-fn main() {
-    let fd = os::open_read(b"scenes");
+fn main(rt: HostRuntime) -> io::Result<()> {
+    let mut scenes = fs::open(&rt, "scenes")?;
     let mut turns: u32 = 0;
     while turns < 100000 {
-        if !one(fd) {
-            return;
+        if !one(&rt, &mut scenes)? {
+            return Ok(());
         }
         turns = turns + 1;
     }
+    Ok(())
 }

@@ -1,10 +1,13 @@
 // Words of a file and the numbers that bit patterns stand for, for the test programs.
+
+#![tactic(auto)]
+
 ghost use Rattle.std.specs.Prelude.{◌≡◌};
 ghost use Rattle.std.specs.Float.{binary32, binary64};
 ghost use Rattle.std.specs.Float.Ieee.{of_bits};
 ghost use Rattle.test_words.specs.Words.{word_of};
 
-#[derive(Drop)]
+#[derive(Clone, Copy)]
 pub enum Next {
     Word(u32),
     End,
@@ -14,7 +17,8 @@ pub enum Next {
 pub fn word(four: &[u8], n: usize) -> Next
     ensures { result ≡ word_of four.now n }
 {
-    if n < 4 {
+    let whole = 4;
+    if n < whole {
         return Next::End;
     }
     Next::Word(scene_field::u32_at(four, 0))

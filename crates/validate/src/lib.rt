@@ -1,10 +1,13 @@
 // What Validate answers, and the numbers that C gets for it.
+
+#![tactic(auto)]
+
 ghost use Rattle.std.specs.Prelude.{◌≡◌};
 ghost use Rattle.validate.specs.Numbers.{judgement, verdict_numbers, validation_numbers};
 
 use refusal::{Refusal, refusal_number};
 
-#[derive(Drop)]
+#[derive(Clone, Copy)]
 pub enum Verdict {
     Ok,
     // No triangles at all.
@@ -18,7 +21,7 @@ pub enum Verdict {
 }
 
 // What Validate answers: a verdict, or by which row the call is refused.
-#[derive(Drop)]
+#[derive(Clone, Copy)]
 pub enum Validation {
     Judged(Verdict),
     Refused(Refusal),
@@ -26,7 +29,7 @@ pub enum Validation {
 
 // A validation in numbers: `validation_numbers` of specs/Numbers.antt gives them for each case.
 #[repr(C)]
-#[derive(Drop)]
+#[derive(Clone, Copy)]
 pub struct Judgement {
     pub refusal: u32,
     pub object: u32,

@@ -1,5 +1,7 @@
 // Whether a mesh can back a physics collider, and if not, why: `Mesh::validate` of mesh.rs.
 
+#![tactic(auto)]
+
 mod faults;
 
 ghost use Rattle.std.specs.Prelude.{◌≡◌, get_or};
@@ -70,10 +72,12 @@ fn triangles(limit: f32, vertices: &[f32], indices: &[u32]) -> Verdict
 fn validate_at(limit: f32, vertices: &[f32], indices: &[u32]) -> Validation
     ensures { result ≡ validate_at limit vertices.now indices.now }
 {
-    if vertices.len() % 3 != 0 {
+    let partial = vertices.len() % 3 != 0;
+    if partial {
         return Validation::Refused(Refusal::PartialVertex);
     }
-    if indices.len() == 0 {
+    let empty = indices.len() == 0;
+    if empty {
         return Validation::Judged(Verdict::Empty);
     }
     match first_not_finite(vertices) {
@@ -82,6 +86,7 @@ fn validate_at(limit: f32, vertices: &[f32], indices: &[u32]) -> Validation
     }
 }
 
+#[tactic(auto, unfolding(validate::specs::Validate::validate))]
 pub fn validate(vertices: &[f32], indices: &[u32]) -> Validation
     ensures { result ≡ validate vertices.now indices.now }
 {

@@ -1,0 +1,7 @@
+use Rattle.lid.specs.Clipping.{is_straight}
+use Rattle.lid.specs.Rings.{turn_of}
+use Rattle.lid_clip.proofs.is_straight.Goals as goal
+
+pub returns : goal.returns
+unfolding is_straight turn_of
+returns c = rw (c.abs.ensures, c.turn.ensures, c.flat_at-a.ensures, c.flat_at-b.ensures, c.flat_at-c.ensures, c.corners_at-t.ensures)
