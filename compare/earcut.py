@@ -1,12 +1,12 @@
 """Times the library's cutting of a ring beside that of the real earcut, in one run: `python3 compare/earcut.py`, from the
-repository's root, after `rt staticlib object_mesh`. It needs cc, numpy and mapbox_earcut (Debian: python3-mapbox-earcut).
+repository's root, after `rt lib --cpu=x86-64` in crates/object_mesh. It needs cc, numpy and mapbox_earcut (Debian: python3-mapbox-earcut).
 
 earcut may cut elsewhere, and keeps no log. The library does not export its cutting: its time is what a Measure of the
 closed outline takes longer than one of the same outline left open, as in the benchmark's table of cutting alone."""
 import ctypes, math, os, struct, subprocess, tempfile, time
 import mapbox_earcut, numpy
 
-LIBRARY = 'target/staticlib/libobject_mesh.a'
+LIBRARY = 'crates/object_mesh/out/libobject_mesh.a'
 ROUNDS = 400
 KINDS = {'open': 3, 'closed': 4}
 

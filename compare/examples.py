@@ -37,9 +37,9 @@ def example(scene):
     text, answer = scene['bytes'], scene['answer']
     given = f'(bytes {len(text) // 2} {number(text)})' if text else '[]'
     if answer[0] == 'refused':
-        return f'refusedAs {given} {answer[1]} {answer[2]}'
+        return f'refused_as {given} {answer[1]} {answer[2]}'
     buffers = [words(scene[b]) for b in BUFFERS] + [words(scene['millimetres'], 'longs')]
-    return f'builtAs {given} {VERDICTS[answer[-1]]} ' + ' '.join(buffers)
+    return f'built_as {given} {VERDICTS[answer[-1]]} ' + ' '.join(buffers)
 
 # the scenes by the first letter of their names
 LISTS = {'lists': 'a', 'outlines': 'bcdefl', 'solids': 'ghi', 'sweeps': 'jk', 'refusals': 'm'}

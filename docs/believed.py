@@ -31,7 +31,7 @@ ALSO = [("mesh", "Demand3", "Demand3")]
 BESIDE = ("test_", "lid_clip_cost")
 
 DEFINES = re.compile(r"(?:(?:unfoldable|abbrev|opaque) )?(?:pub )?(?:(record|data) ([^\s:({]+)|([^\s:]+) :(?: |$))")
-USES = re.compile(r"^(?:unfoldable )?(?:pub )?(?:ghost )?use Rattle·(\w+?)(?:·specs)?\.specs\.([^{}\n]+)\.\{([^}]*)\}", re.M)
+USES = re.compile(r"^(?:unfoldable )?(?:pub )?(?:ghost )?use Rattle\.(?!std\b)(\w+)\.specs\.([^{}\n]+)\.\{([^}]*)\}", re.M)
 RUST_USES = re.compile(r"^(?:pub )?use ((?:\w+::)+)(\w+);", re.M)
 RUST_TYPES = re.compile(r"((?://.*\n|#\[.*\n)*)^((?:pub )?(?:struct|enum|type) (\w+)(?: \{[^}]*\}|[^;{]*;))", re.M)
 
@@ -105,7 +105,7 @@ def read_tree(root):
 def find(tree, crate, path, name):
     """The key of the definition that a name of a module means, a constructor's being its data's; or None."""
     if path.startswith("declared."):
-        return crate, "declared", path.removeprefix("declared.").removesuffix(".the-variants")
+        return crate, "declared", path.removeprefix("declared.").removesuffix(".TheVariants")
     if (crate, path) not in tree:  # the constructors of a data, by its name
         above, _, data = path.rpartition(".")
         return find(tree, crate, above, data) if above else None
@@ -150,7 +150,7 @@ def citations(tree, key):
     clauses = clauses_of(definition)
     shared = bound(clauses[0]) if definition.kind else set()
     names = set().union(*[set(words(c)) - bound(c) - shared for c in clauses])
-    return {find(tree, *key[:2], n) or find(tree, *key[:2], f"_{n}_") for n in names} - {None}
+    return {find(tree, *key[:2], n) or find(tree, *key[:2], f"◌{n}◌") for n in names} - {None}
 
 
 def named_by(tree, root, crate, start):

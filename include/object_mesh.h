@@ -1,8 +1,8 @@
 /* Object mesh: triangles of the objects along a road, with an account of each.
  *
- * For C99 and C++11, and later, on x86-64; link with libobject_mesh.a (`rt staticlib object_mesh`). No
- * function keeps memory, calls the operating system or fails: every input is answered, and a refused
- * call changes no buffer.
+ * For C99 and C++11, and later, on x86-64; link with libobject_mesh.a, which
+ * `rt lib --cpu=x86-64` in crates/object_mesh writes to out/ there. No function keeps memory, calls
+ * the operating system or fails: every input is answered, and a refused call changes no buffer.
  *
  * ---- What a caller sees to
  *
@@ -19,7 +19,7 @@
  *             works on numbers that it does not use. Such a thread sets the mode around its calls:
  *                 unsigned mode = _mm_getcsr(); _mm_setcsr(0x1F80); ... _mm_setcsr(mode);
  * Stack       Build takes up to 27 KB, Measure as much, whatever the scene's size, Bound and Validate
- *             under 1 KB. This was measured (26,568 bytes, closed outlines), and is not proved.
+ *             under 1 KB. This was measured (27,024 bytes, closed outlines), and is not proved.
  * Threads     There is no state. Any number of threads may call at once, each with buffers of its own;
  *             they may share a scene.
  *
