@@ -3,7 +3,7 @@
 
 #![tactic(auto)]
 
-ghost use Rattle.std.specs.Prelude.{◌≤◌, length, IfOk};
+ghost use Rattle.std.specs.Prelude.{◌≡◌, ◌≤◌, length, IfOk, IfErr};
 ghost use Rattle.std.specs.Io.{ReadsAtMost};
 
 use refusal::refusal_number;
@@ -31,7 +31,8 @@ enum Found {
 // Reads until `to` is full or the input ends, and answers how many bytes it put at the start of
 // `to`.
 fn read_full(input: &mut impl Read, to: &mut [u8]) -> io::Result<usize>
-    ensures { ReadsAtMost result to.new }
+    ensures ok { ReadsAtMost result to.new }
+    ensures err { IfErr result (λ e. length to.new ≡ length to.old) }
 {
     let mut done = 0;
     while done < to.len() {
@@ -74,7 +75,8 @@ fn next_piece(input: &mut impl Read) -> io::Result<Found> {
 // The next n bytes of the file, from place `at` on. Each of these answers the place behind what it
 // wrote; where that does not fit it writes nothing and answers 0.
 fn put_bytes(input: &mut impl Read, to: &mut [u8], at: usize, n: usize) -> io::Result<usize>
-    ensures { IfOk result (λ end. end ≤ length to.old) }
+    ensures ok { IfOk result (λ end. end ≤ length to.old) }
+    ensures err { IfErr result (λ e. length to.new ≡ length to.old) }
 {
     if to.len() < at {
         return Ok(0);
@@ -144,7 +146,8 @@ fn put_steps(to: &mut [u8], at: usize, n: usize, first: u32, step: u32) -> usize
 }
 
 fn put_piece(input: &mut impl Read, to: &mut [u8], at: usize, p: Piece) -> io::Result<usize>
-    ensures { IfOk result (λ end. end ≤ length to.old) }
+    ensures ok { IfOk result (λ end. end ≤ length to.old) }
+    ensures err { IfErr result (λ e. length to.new ≡ length to.old) }
 {
     let n = p.count as usize;
     if p.kind == 0 {
@@ -158,7 +161,8 @@ fn put_piece(input: &mut impl Read, to: &mut [u8], at: usize, p: Piece) -> io::R
 
 // The length of the scene that the pieces make.
 fn put_scene(input: &mut impl Read, to: &mut [u8], pieces: u32) -> io::Result<usize>
-    ensures { IfOk result (λ end. end ≤ length to.old) }
+    ensures ok { IfOk result (λ end. end ≤ length to.old) }
+    ensures err { IfErr result (λ e. length to.new ≡ length to.old) }
 {
     let mut at = 0;
     let mut k = 0;

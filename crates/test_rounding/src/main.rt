@@ -5,6 +5,7 @@
 
 #![tactic(auto)]
 
+ghost use Rattle.std.specs.Prelude.{◌≡◌, length, IfErr};
 ghost use Rattle.std.specs.Io.{ReadsAtMost};
 
 use std::io::Read;
@@ -14,7 +15,8 @@ use test_words::Next;
 // Reads until `to` is full or the input ends, and answers how many bytes it put at the start of
 // `to`.
 fn read_full(input: &mut impl Read, to: &mut [u8]) -> io::Result<usize>
-    ensures { ReadsAtMost result to.new }
+    ensures ok { ReadsAtMost result to.new }
+    ensures err { IfErr result (λ e. length to.new ≡ length to.old) }
 {
     let mut done = 0;
     while done < to.len() {
