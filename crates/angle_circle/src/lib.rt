@@ -1,5 +1,5 @@
 // The sines and cosines of a prism's sixteen ring points, at k * TAU / 16, and of its sixteen side
-// directions, half a step further: document 01, section 3.
+// directions, half a step further.
 
 #![tactic(auto)]
 
@@ -7,7 +7,7 @@ ghost use Rattle.std.specs.Prelude.{◌≡◌};
 ghost use Rattle.angle_circle.specs.Circle.{angle, side_angle};
 ghost use Rattle.angle_circle.specs.Contract.Circle.{sin_cos};
 
-// The sines and the cosines of sixteen angles.
+// The sines and the cosines of sixteen angles, in two lists as the definition `sin_cos` has them.
 #[derive(Clone, Copy)]
 pub struct SinCos {
     pub sin: [f32; 16],
@@ -90,7 +90,8 @@ const SIDE_COSINES: [f32; 16] = [
     0.9807853,
 ];
 
-// Of the ring points. A constant array is copied at each use: a loop asks for all before it begins.
+// Of the ring points. A constant array is copied at each use: a loop asks for all before it begins. One
+// function for both would be no plainer: its parameter would only pick the tables.
 pub fn ring_sin_cos() -> SinCos
     ensures { result ≡ sin_cos angle }
 {

@@ -5,12 +5,13 @@
 pub mod thin;
 
 ghost use Rattle.std.specs.Prelude.{◌≡◌};
-ghost use Rattle.coords.specs.Coords.{diff, moved, lerp, same_point, finite_point};
+ghost use Rattle.coords.specs.Coords.{diff, moved, lerp, finite_point};
 
 use coords_vector::Vector;
+use std::ops::{Add, Sub};
 
-// A point in the world: metres, right-handed, Z up.
-#[derive(Clone, Copy)]
+// A point in the world: metres, right-handed, Z up. `==` is by value: -0.0 equals +0.0.
+#[derive(Clone, Copy, PartialEq)]
 pub struct Point {
     pub x: f32,
     pub y: f32,
@@ -18,31 +19,11 @@ pub struct Point {
 }
 
 impl Point {
-    pub fn sub(self, other: Point) -> Vector
-        ensures { result ≡ diff self other }
-    {
-        Vector {
-            x: self.x - other.x,
-            y: self.y - other.y,
-            z: self.z - other.z,
-        }
-    }
-
-    pub fn add(self, v: Vector) -> Point
-        ensures { result ≡ moved self v }
-    {
-        Point {
-            x: self.x + v.x,
-            y: self.y + v.y,
-            z: self.z + v.z,
-        }
-    }
-
     // The point t of the way to other.
     pub fn lerp(self, other: Point, t: f32) -> Point
         ensures { result ≡ lerp self other t }
     {
-        self.add(other.sub(self).scale(t))
+        self + (other - self) * t
     }
 
     pub fn is_finite(self) -> bool
@@ -52,11 +33,32 @@ impl Point {
             & float_sign::finite::is_finite(self.y)
             & float_sign::finite::is_finite(self.z)
     }
+}
 
-    // Equal by value: -0.0 equals +0.0.
-    pub fn eq(self, other: Point) -> bool
-        ensures { result ≡ same_point self other }
-    {
-        (self.x == other.x) & (self.y == other.y) & (self.z == other.z)
+impl Sub for Point {
+    type Output = Vector;
+
+    ghost sub_gives = { λ a b r. r ≡ diff a b };
+
+    fn sub(self, other: Point) -> Vector {
+        Vector {
+            x: self.x - other.x,
+            y: self.y - other.y,
+            z: self.z - other.z,
+        }
+    }
+}
+
+impl Add<Vector> for Point {
+    type Output = Point;
+
+    ghost add_gives = { λ a v r. r ≡ moved a v };
+
+    fn add(self, v: Vector) -> Point {
+        Point {
+            x: self.x + v.x,
+            y: self.y + v.y,
+            z: self.z + v.z,
+        }
     }
 }

@@ -41,7 +41,7 @@ pub fn shorter_than(v: Vector, limit: f32) -> bool
 pub fn no_area(limit: f32, a: Point, b: Point, c: Point) -> bool
     ensures { result ≡ no_area limit a b c }
 {
-    shorter_than(b.sub(a).cross(c.sub(a)), limit)
+    shorter_than((b - a).cross(c - a), limit)
 }
 
 // Whether a call may name this limit: from 1e-6 up to 1. A NaN is neither.

@@ -5,6 +5,8 @@
 ghost use Rattle.std.specs.Prelude.{◌≡◌};
 ghost use Rattle.coords_vector.specs.Vectors.{plus, less, scale, negate, dot, cross, normalize_or};
 
+use std::ops::{Add, Mul, Neg, Sub};
+
 // A displacement between points, or a direction.
 #[derive(Clone, Copy)]
 pub struct Vector {
@@ -32,46 +34,6 @@ impl Vector {
         z: 1.0,
     };
 
-    pub fn add(self, other: Vector) -> Vector
-        ensures { result ≡ plus self other }
-    {
-        Vector {
-            x: self.x + other.x,
-            y: self.y + other.y,
-            z: self.z + other.z,
-        }
-    }
-
-    pub fn sub(self, v: Vector) -> Vector
-        ensures { result ≡ less self v }
-    {
-        Vector {
-            x: self.x - v.x,
-            y: self.y - v.y,
-            z: self.z - v.z,
-        }
-    }
-
-    pub fn scale(self, k: f32) -> Vector
-        ensures { result ≡ scale self k }
-    {
-        Vector {
-            x: self.x * k,
-            y: self.y * k,
-            z: self.z * k,
-        }
-    }
-
-    pub fn neg(self) -> Vector
-        ensures { result ≡ negate self }
-    {
-        Vector {
-            x: -self.x,
-            y: -self.y,
-            z: -self.z,
-        }
-    }
-
     pub fn dot(self, other: Vector) -> f32
         ensures { result ≡ dot self other }
     {
@@ -94,9 +56,65 @@ impl Vector {
     {
         let len = float_sqrt::sqrt(self.dot(self));
         if float_sign::finite::is_finite(len) & (0.0 < len) {
-            self.scale(1.0 / len)
+            self * (1.0 / len)
         } else {
             fallback
+        }
+    }
+}
+
+impl Add for Vector {
+    type Output = Vector;
+
+    ghost add_gives = { λ a b r. r ≡ plus a b };
+
+    fn add(self, other: Vector) -> Vector {
+        Vector {
+            x: self.x + other.x,
+            y: self.y + other.y,
+            z: self.z + other.z,
+        }
+    }
+}
+
+impl Sub for Vector {
+    type Output = Vector;
+
+    ghost sub_gives = { λ a b r. r ≡ less a b };
+
+    fn sub(self, v: Vector) -> Vector {
+        Vector {
+            x: self.x - v.x,
+            y: self.y - v.y,
+            z: self.z - v.z,
+        }
+    }
+}
+
+impl Mul<f32> for Vector {
+    type Output = Vector;
+
+    ghost mul_gives = { λ a k r. r ≡ scale a k };
+
+    fn mul(self, k: f32) -> Vector {
+        Vector {
+            x: self.x * k,
+            y: self.y * k,
+            z: self.z * k,
+        }
+    }
+}
+
+impl Neg for Vector {
+    type Output = Vector;
+
+    ghost neg_gives = { λ a r. r ≡ negate a };
+
+    fn neg(self) -> Vector {
+        Vector {
+            x: -self.x,
+            y: -self.y,
+            z: -self.z,
         }
     }
 }

@@ -8,7 +8,7 @@ ghost use Rattle.decimal.specs.Decimals.{decimal};
 ghost use Rattle.decimal.specs.Contract.Decimals.{integer, ten_to};
 ghost use Rattle.decimal.specs.Contract.Texts.{HasRoom, Wrote};
 
-// 10^k, but 0 at 0. A match is compiled to a table, where an array would be copied at each call.
+// 10^k, but 0 at 0, which `pow` has not. A match is compiled to a table, where an array would be copied at each call.
 fn ten_to(k: u64) -> u64
     requires { k < 20 }
     ensures { result ≡ ten_to k }
@@ -42,23 +42,12 @@ fn ten_to(k: u64) -> u64
 pub fn decimal_size(n: u64) -> usize
     ensures { result ≡ length (decimal n) }
 {
-    let bits = 64 - (u64::leading_zeros(n) as u64);
+    let bits = 64 - (n.leading_zeros() as u64);
     let guess = bits * 1233 / 4096;
     if n < ten_to(guess) {
         guess as usize
     } else {
         (guess as usize) + 1
-    }
-}
-
-// The number without its sign. The negative of the least i64 fits no i64, so one is added first.
-fn magnitude(x: i64) -> u64
-    ensures { result ≡ nat_abs x }
-{
-    if x >= 0 {
-        x as u64
-    } else {
-        ((0 - (x + 1)) as u64) + 1
     }
 }
 
@@ -72,7 +61,7 @@ fn sign_size(x: i64) -> usize
 pub fn integer_size(x: i64) -> usize
     ensures { result ≡ length (integer x) }
 {
-    sign_size(x) + decimal_size(magnitude(x))
+    sign_size(x) + decimal_size(x.unsigned_abs())
 }
 
 fn digit(d: u64) -> u8
@@ -111,6 +100,7 @@ pub fn put_decimal(text: &mut [u8], at: usize, n: u64) -> usize
     let next = at + decimal_size(n);
     let mut i = next;
     let mut rest = n;
+    // As many turns as `rest` has pairs of digits left: a `for` would have to count them first.
     while 100 <= rest {
         let two = rest % 100;
         rest = rest / 100;
@@ -128,5 +118,6 @@ pub fn put_integer(text: &mut [u8], at: usize, x: i64) -> usize
     ensures { Wrote text.old at (integer x) text.new result }
 {
     text[at] = b'-';
-    put_decimal(text, at + sign_size(x), magnitude(x))
+    let digits = x.unsigned_abs();
+    put_decimal(text, at + sign_size(x), digits)
 }

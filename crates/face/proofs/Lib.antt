@@ -4,3 +4,4 @@ pub mod Corners
 pub mod Written
 pub mod Good
 pub mod Draws
+pub mod Canvases

@@ -12,12 +12,10 @@ fn put_vertices(points: &[f32], normal: Vector, at: u32, vs: &mut [f32], ns: &mu
     ensures { Stores (vertices_in points.now) normal at vs ns }
 {
     let n = (points.len() / 3) as u32;
-    let mut k: u32 = 0;
-    while k < n {
-        let p = buffer::floats::vertex_at(points, k as usize);
-        buffer::floats::put_floats(vs, at + k, p.x, p.y, p.z);
-        buffer::floats::put_floats(ns, at + k, normal.x, normal.y, normal.z);
-        k = k + 1;
+    for k in 0..n {
+        let p = buffer::vertex_at(points, k as usize);
+        buffer::put_three(vs, at + k, p.x, p.y, p.z);
+        buffer::put_three(ns, at + k, normal.x, normal.y, normal.z);
     }
 }
 
@@ -27,7 +25,7 @@ pub fn put_points(points: &[f32], sum: Vector, at: u32, vs: &mut [f32], ns: &mut
     requires { at + length points.now / 3 < 2 ^ 32 }
     ensures { Stores (vertices_in points.now) (normalize_or sum unit_z) at vs ns }
 {
-    if (vs.len() == 0) & (ns.len() == 0) {
+    if vs.is_empty() && ns.is_empty() {
         return;
     }
     let normal = sum.normalize_or(Vector::Z);

@@ -1,4 +1,5 @@
-// Numbers and their rounding: see specs/. The crates `float_sign`, `float_sqrt`, `float_narrow` and `coords_thin` have the code.
+// Numbers and their rounding: see specs/. The crates `float_sign`, `float_sqrt`, `float_narrow` and
+// `coords` (its module `thin`) have the code.
 
 #![tactic(auto)]
 

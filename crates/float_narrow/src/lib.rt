@@ -100,12 +100,13 @@ fn finite_bits(b: u64) -> u32
     }
 }
 
-// x as an f32, rounded once.
+// x as an f32, rounded once. It is the program's own, which counts leading zeros, and not std's
+// `nearest_f64_to_f32_with_nan`: a rule of the project.
 pub fn narrow(x: f64) -> f32
     ensures { result ≡ convert binary32 x }
 {
-    if x != x {
-        return 0.0 / 0.0;
+    if x.is_nan() {
+        return f32::NAN;
     }
     let b = f64::to_bits(x);
     let sign = (b / 0x8000_0000_0000_0000 * 0x8000_0000) as u32;

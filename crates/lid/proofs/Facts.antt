@@ -10,8 +10,7 @@ use lib.Dec.{T, leb, eqb, eqb→eq}
 use lib.ListN.{length, get_or, take, drop, length-append, length-take, length-drop, length-map, length-reverse}
 use lib.Ieee.{lt}
 use borrow.Author.Tests.{leb-false}
-use Rattle.lists.specs.declared.Found.{Found}
-use Rattle.lists.specs.declared.Found.TheVariants.{At, Nowhere}
+use Rattle.std.specs.Prelude.{Option, Some, None}
 use Rattle.lists.specs.Each.{Each}
 use Rattle.lists.specs.Loops.{first, fold, list, sum_of, count_of, remove_at}
 use Rattle.float.specs.Number.{zerof}
@@ -19,10 +18,9 @@ use Rattle.float.specs.Signs.{total_less}
 use Rattle.face_triangle.specs.Triangles.{Triangle, triangle}
 use Rattle.face_triangle.specs.Contract.Triangles.{TriangleLow}
 use Rattle.lid.specs.declared.Flat.{Flat}
-use Rattle.lid.specs.declared.Bridged.{Bridged}
-use Rattle.lid.specs.declared.Bridged.TheVariants.{Unjoined, Joined}
-use Rattle.lid.specs.declared.Step.{Step}
-use Rattle.lid.specs.declared.Step.TheVariants.{Cut, Stop}
+use Rattle.lid.specs.declared.Bridge.{Bridge}
+use Rattle.lid.specs.declared.Cut.{Cut}
+use Rattle.lid.specs.Marks.{mark_number}
 use Rattle.lid.specs.Log.{Entry, entry, Logged, logged, is_mark, left_over}
 use Rattle.lid.specs.Rings.{Hole, too_small, area, right, turn_of, turn_outer, turn_hole, rings_from, holes_from, skipped_from, insert, in_order}
 use Rattle.lid.specs.Bridges.{bridge, splice, spliced, bridge_entry, join_all}
@@ -110,29 +108,29 @@ module _ (fs : List Flat) where
   join_all_quiet [] r = quiet_nil
   join_all_quiet (h ∷ hs) r = quiet_cons _ _ (go (bridge fs r h.ring)) (join_all_quiet hs (spliced r h.ring (bridge fs r h.ring)))
     where
-      go : (b : Bridged) → QuietEntry (bridge_entry h.number b)
-      go Unjoined = (refl, refl)
-      go (Joined t j) = (refl, refl)
+      go : (b : Option Bridge) → QuietEntry (bridge_entry h.number b)
+      go None = (refl, refl)
+      go (Some b) = (refl, refl)
 
   -- the clipping cuts at a place of a ring of more than three, and no entry of it is marked 3
-  abbrev pub StepOk : List ℕ → Step → Type 0
-  StepOk r (Cut mark i) = (eqb mark 3 ≡ false) × (i.0 < length r) × (3 < length r)
-  StepOk r Stop = Unit {0}
+  abbrev pub StepOk : List ℕ → Option Cut → Type 0
+  StepOk r (Some cut) = (eqb (mark_number cut.mark) 3 ≡ false) × (cut.place.0 < length r) × (3 < length r)
+  StepOk r None = Unit {0}
 
-  cut_straight_ok : (r : List ℕ) (f : Found) → 3 < length r → Below (length r) f → StepOk r (cut_straight f)
+  cut_straight_ok : (r : List ℕ) (f : Option ℕ) → 3 < length r → Below (length r) f → StepOk r (cut_straight f)
   unfolding cut_straight
-  cut_straight_ok r (At i) m b = (refl, b, m)
-  cut_straight_ok r Nowhere m b = tt
+  cut_straight_ok r (Some i) m b = (refl, b, m)
+  cut_straight_ok r None m b = tt
 
-  cut_ear_ok : (r : List ℕ) (f : Found) → 3 < length r → Below (length r) f → StepOk r (cut_ear fs r f)
+  cut_ear_ok : (r : List ℕ) (f : Option ℕ) → 3 < length r → Below (length r) f → StepOk r (cut_ear fs r f)
   unfolding cut_ear
-  cut_ear_ok r (At i) m b = (refl, b, m)
-  cut_ear_ok r Nowhere m b = cut_straight_ok r (first (is_straight fs r) (length r) 0) m (first_below (is_straight fs r) (length r))
+  cut_ear_ok r (Some i) m b = (refl, b, m)
+  cut_ear_ok r None m b = cut_straight_ok r (first (is_straight fs r) (length r) 0) m (first_below (is_straight fs r) (length r))
 
   pub clip_step_ok : (r : List ℕ) → StepOk r (clip_step fs r)
   unfolding clip_step
   clip_step_ok r =
-      either_by (StepOk r) (leb (length r) 3) {x = Stop} {y = cut_ear fs r (first (is_ear fs r) (length r) 0)} (λ h. tt)
+      either_by (StepOk r) (leb (length r) 3) {x = None} {y = cut_ear fs r (first (is_ear fs r) (length r) 0)} (λ h. tt)
       (λ h. cut_ear_ok r (first (is_ear fs r) (length r) 0) (leb-false (length r) 3 h) (first_below (is_ear fs r) (length r)))
 
   -- what holds of a clipping that stops, and through a cut, holds of the clipping
@@ -143,9 +141,11 @@ module _ (fs : List Flat) where
   clip_ind P stops cuts zero r = stops r
   clip_ind P stops cuts (suc n) r = go (clip_ind P stops cuts n) (clip_step fs r) (clip_step_ok r)
     where
-      go : ((s : List ℕ) → P s (clip fs n s)) → (s : Step) → StepOk r s → P r (clip_by (λ t. clip fs n t) r s)
-      go ih (Cut mark i) q = cuts r mark i.0 (clip fs n (remove_at i.0 r)) q.0 q.1 q.2 (ih (remove_at i.0 r))
-      go ih Stop q = stops r
+      go : ((s : List ℕ) → P s (clip fs n s)) → (s : Option Cut) → StepOk r s → P r (clip_by (λ t. clip fs n t) r s)
+      go ih (Some cut) q =
+          let i = cut.place.0 in
+          cuts r (mark_number cut.mark) i (clip fs n (remove_at i r)) q.0 q.1 q.2 (ih (remove_at i r))
+      go ih None q = stops r
 
   clip_left : (n : ℕ) (r : List ℕ) → left_over (clip fs n r).log ≡ []
   unfolding logged left_over is_mark
@@ -233,10 +233,10 @@ module _ (fs : List Flat) (hole : ℕ → List ℕ) where
   join_all_ring [] q r = omega arith
   join_all_ring (h ∷ hs) q r = go (join_all_ring hs q.1) (bridge fs r h.ring) (bridge_in fs r h.ring q.0.some)
     where
-      go : ((s : List ℕ) → length (join_all fs hs s).ring ≤ length s + sum_of adds hs) → (b : Bridged) → BridgeIn fs r h.ring b
+      go : ((s : List ℕ) → length (join_all fs hs s).ring ≤ length s + sum_of adds hs) → (b : Option Bridge) → BridgeIn fs r h.ring b
           → length (join_all fs hs (spliced r h.ring b)).ring ≤ length r + (adds h + sum_of adds hs)
-      go ih Unjoined b = omega (arith, ih r)
-      go ih (Joined t j) b = omega (arith, ih (splice r h.ring t.0 j.0), splice_size r h.ring t.0 j.0 b.0 b.1)
+      go ih None b = omega (arith, ih r)
+      go ih (Some joint) b = let t = joint.place.0 in let j = joint.from.0 in omega (arith, ih (splice r h.ring t j), splice_size r h.ring t j b.0 b.1)
 
   pub join_all_log : (hs : List Hole) (r : List ℕ) → length (join_all fs hs r).log ≡ length hs
   unfolding join_all logged
@@ -426,9 +426,9 @@ module _ (fs : List Flat) (n : ℕ) where
   join_all_low hole (h ∷ hs) k q r p =
       join_all_low hole hs k.1 q.1 (spliced r h.ring (bridge fs r h.ring)) (go (bridge fs r h.ring) (bridge_in fs r h.ring k.0.some))
     where
-      go : (b : Bridged) → BridgeIn fs r h.ring b → Low n (spliced r h.ring b)
-      go Unjoined b = p
-      go (Joined t j) b = splice_low n r h.ring t.0 j.0 b.0 p q.0
+      go : (b : Option Bridge) → BridgeIn fs r h.ring b → Low n (spliced r h.ring b)
+      go None b = p
+      go (Some joint) b = splice_low n r h.ring joint.place.0 joint.from.0 b.0 p q.0
 
   clip_low : (f : ℕ) (r : List ℕ) → Low n r → Low n (clip fs f r).ring × Each (EntryLow n) (clip fs f r).log
   unfolding logged

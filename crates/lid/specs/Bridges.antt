@@ -1,18 +1,14 @@
--- Document 01, section 6, and `bridge`: how a hole is joined to the ring.
-use Rattle.std.specs.Prelude.{ℕ, ◌+◌, Bool, false, not, ◌&&◌, ◌||◌, cond, List, [], ◌∷◌, ◌++◌, length, get_or, take, drop, eqb, Float}
+-- As `bridge`: how a hole is joined to the ring.
+use Rattle.std.specs.Prelude.{ℕ, ◌+◌, Bool, false, not, ◌&&◌, ◌||◌, cond, List, [], ◌∷◌, ◌++◌, length, get_or, take, drop, eqb, Option, None, Some, Float}
 use Rattle.std.specs.Bool.{beq}
 use Rattle.std.specs.Float.{inf}
 use Rattle.std.specs.Float.Ieee.{lt, le, eq, ne}
-use Rattle.lists.specs.declared.Found.{Found}
-use Rattle.lists.specs.declared.Found.TheVariants.{At, Nowhere}
 use Rattle.lists.specs.Loops.{next, previous, loop, first}
 use Rattle.float.specs.Number.{◌+f◌, ◌-f◌, ◌*f◌, ◌/f◌, zerof, min_positive}
 use Rattle.float.specs.Signs.{magnitude, signum, larger, total_less}
 use Rattle.lid.specs.declared.Flat.{Flat}
 use Rattle.lid.specs.declared.Hit.{Hit}
-use Rattle.lid.specs.declared.Hit.TheVariants.{Nothing, Edge}
-use Rattle.lid.specs.declared.Bridged.{Bridged}
-use Rattle.lid.specs.declared.Bridged.TheVariants.{Unjoined, Joined}
+use Rattle.lid.specs.declared.Bridge.{Bridge}
 use Rattle.lid.specs.declared.Seen.{Seen}
 use Rattle.lid.specs.Log.{Entry, entry, Logged, logged}
 use Rattle.lid.specs.Rings.{place_of, corner, turn, Hole}
@@ -33,24 +29,24 @@ unfoldable pub meets : Flat → Flat → Flat → Float
 meets m a b = a.x +f (m.y -f a.y) *f (b.x -f a.x) /f (b.y -f a.y)
 
 -- x is no nearer than what was hit before
-unfoldable pub no_nearer : Hit → Float → Bool
-no_nearer Nothing x = false
-no_nearer (Edge best p) x = le best x
+unfoldable pub no_nearer : Option Hit → Float → Bool
+no_nearer None x = false
+no_nearer (Some hit) x = le hit.x x
 
 -- the edge from place k to place j, its ends a and b
-unfoldable pub hit_edge : Flat → Flat → Flat → ℕ → ℕ → Hit → Hit
+unfoldable pub hit_edge : Flat → Flat → Flat → ℕ → ℕ → Option Hit → Option Hit
 hit_edge m a b k j h =
     let x = meets m a b in
-    cond (passes m a b) h (cond (lt x m.x || no_nearer h x) h (Edge x (place_of (cond (lt b.x a.x) k j))))
+    cond (passes m a b) h (cond (lt x m.x || no_nearer h x) h (Some (record { x = x; end = place_of (cond (lt b.x a.x) k j) })))
 
-unfoldable pub hit_at : List Flat → List ℕ → Flat → ℕ → Hit → Hit
+unfoldable pub hit_at : List Flat → List ℕ → Flat → ℕ → Option Hit → Option Hit
 hit_at fs ring m k h =
     let j = next (length ring) k in
     hit_edge m (corner fs (get_or ring k 0)) (corner fs (get_or ring j 0)) k j h
 
 -- where the ray from m toward +x meets the ring first: at which x, and the place of the rightmost end of that edge
-unfoldable pub first_hit : List Flat → List ℕ → Flat → Hit
-first_hit fs ring m = loop (hit_at fs ring m) (length ring) 0 Nothing
+unfoldable pub first_hit : List Flat → List ℕ → Flat → Option Hit
+first_hit fs ring m = loop (hit_at fs ring m) (length ring) 0 None
 
 -- r lies in the triangle m, i, p, whose turn has the sign s
 unfoldable pub inside : Flat → Flat → Flat → Float → Flat → Bool
@@ -88,20 +84,21 @@ is_copy fs ring m c k =
     let n = length ring in
     eqb (get_or ring k 0) c && sits_in m (corner fs (get_or ring (previous n k) 0)) (corner fs c) (corner fs (get_or ring (next n k) 0))
 
-unfoldable pub or_else : Found → ℕ → ℕ
-or_else (At k) d = k
-or_else Nowhere d = d
+unfoldable pub or_else : Option ℕ → ℕ → ℕ
+or_else (Some k) d = k
+or_else None d = d
 
 -- of the places that hold the corner seen, the first that m sits in, or the one seen where there is none
 unfoldable pub copy_of : List Flat → List ℕ → Flat → ℕ → ℕ
 copy_of fs ring m target = or_else (first (is_copy fs ring m (get_or ring target 0)) (length ring) 0) target
 
 -- a hole is joined at a place of the ring and a place of the hole, or stays apart where its ray meets nothing
-unfoldable pub bridge_at : List Flat → List ℕ → Flat → ℕ → Hit → Bridged
-bridge_at fs ring m j Nothing = Unjoined
-bridge_at fs ring m j (Edge x target) = Joined (place_of (copy_of fs ring m (visible fs ring m (record { x = x; y = m.y }) target.0))) (place_of j)
+unfoldable pub bridge_at : List Flat → List ℕ → Flat → ℕ → Option Hit → Option Bridge
+bridge_at fs ring m j None = None
+bridge_at fs ring m j (Some hit) =
+    Some (record { place = place_of (copy_of fs ring m (visible fs ring m (record { x = hit.x; y = m.y }) hit.end.0)); from = place_of j })
 
-unfoldable pub bridge : List Flat → List ℕ → List ℕ → Bridged
+unfoldable pub bridge : List Flat → List ℕ → List ℕ → Option Bridge
 bridge fs ring hole =
     let j = rightmost fs hole in
     let m = corner fs (get_or hole j 0) in
@@ -112,13 +109,13 @@ unfoldable pub splice : List ℕ → List ℕ → ℕ → ℕ → List ℕ
 splice ring hole place j =
     take (place + 1) ring ++ drop j hole ++ take (j + 1) hole ++ (get_or ring place 0 ∷ drop (place + 1) ring)
 
-unfoldable pub spliced : List ℕ → List ℕ → Bridged → List ℕ
-spliced ring hole Unjoined = ring
-spliced ring hole (Joined place j) = splice ring hole place.0 j.0
+unfoldable pub spliced : List ℕ → List ℕ → Option Bridge → List ℕ
+spliced ring hole None = ring
+spliced ring hole (Some b) = splice ring hole b.place.0 b.from.0
 
-unfoldable pub bridge_entry : ℕ → Bridged → Entry
-bridge_entry k Unjoined = entry 5 k 0 0
-bridge_entry k (Joined place j) = entry 4 k place.0 j.0
+unfoldable pub bridge_entry : ℕ → Option Bridge → Entry
+bridge_entry k None = entry 5 k 0 0
+bridge_entry k (Some b) = entry 4 k b.place.0 b.from.0
 
 -- the holes joined to the ring one after the other
 unfoldable pub join_all : List Flat → List Hole → List ℕ → Logged

@@ -1,14 +1,13 @@
--- Document 01, section 6, and `triangulate`: ears are cut off and straight corners dropped, until neither is found.
-use Rattle.std.specs.Prelude.{ℕ, zero, suc, Bool, ◌&&◌, ◌||◌, cond, List, [], length, get_or, leb, eqb}
+-- As in `triangulate`: ears are cut off and straight corners dropped, until neither is found.
+use Rattle.std.specs.Prelude.{ℕ, zero, suc, Bool, ◌&&◌, ◌||◌, cond, List, [], length, get_or, leb, eqb, Option, None, Some}
 use Rattle.std.specs.Float.Ieee.{lt}
-use Rattle.lists.specs.declared.Found.{Found}
-use Rattle.lists.specs.declared.Found.TheVariants.{At, Nowhere}
 use Rattle.lists.specs.Loops.{next, previous, first, every, remove_at}
 use Rattle.float.specs.Number.{zerof, min_area}
 use Rattle.float.specs.Signs.{magnitude}
 use Rattle.lid.specs.declared.Flat.{Flat}
-use Rattle.lid.specs.declared.Step.{Step}
-use Rattle.lid.specs.declared.Step.TheVariants.{Cut, Stop}
+use Rattle.lid.specs.declared.Cut.{Cut}
+use Rattle.lid.specs.declared.Mark.TheVariants.{Ear, Dropped}
+use Rattle.lid.specs.Marks.{mark_number}
 use Rattle.lid.specs.Log.{entry, Logged, logged}
 use Rattle.lid.specs.Rings.{place_of, turn_of}
 
@@ -36,23 +35,25 @@ is_ear fs ring i =
 unfoldable pub is_straight : List Flat → List ℕ → ℕ → Bool
 is_straight fs ring i = lt (magnitude (turn_of fs (before ring i) (here ring i) (after ring i))) min_area
 
--- what is done to a ring: the corner at a place is cut off, under mark 1 or 2, or nothing
-unfoldable pub cut_straight : Found → Step
-cut_straight (At i) = Cut 2 (place_of i)
-cut_straight Nowhere = Stop
+-- what is done to a ring: the corner at a place is cut off, an ear or one that is dropped, or nothing
+unfoldable pub cut_straight : Option ℕ → Option Cut
+cut_straight (Some i) = Some (record { mark = Dropped; place = place_of i })
+cut_straight None = None
 
 -- an ear where there is one, else a straight corner
-unfoldable pub cut_ear : List Flat → List ℕ → Found → Step
-cut_ear fs ring (At i) = Cut 1 (place_of i)
-cut_ear fs ring Nowhere = cut_straight (first (is_straight fs ring) (length ring) 0)
+unfoldable pub cut_ear : List Flat → List ℕ → Option ℕ → Option Cut
+cut_ear fs ring (Some i) = Some (record { mark = Ear; place = place_of i })
+cut_ear fs ring None = cut_straight (first (is_straight fs ring) (length ring) 0)
 
-unfoldable pub clip_step : List Flat → List ℕ → Step
-clip_step fs ring = cond (leb (length ring) 3) Stop (cut_ear fs ring (first (is_ear fs ring) (length ring) 0))
+unfoldable pub clip_step : List Flat → List ℕ → Option Cut
+clip_step fs ring = cond (leb (length ring) 3) None (cut_ear fs ring (first (is_ear fs ring) (length ring) 0))
 
 -- a ring after a step, `later` being what becomes of the ring that a cut leaves
-unfoldable pub clip_by : (List ℕ → Logged) → List ℕ → Step → Logged
-clip_by later ring (Cut mark i) = logged (entry mark (before ring i.0) (here ring i.0) (after ring i.0)) (later (remove_at i.0 ring))
-clip_by later ring Stop = record { ring = ring; log = [] }
+unfoldable pub clip_by : (List ℕ → Logged) → List ℕ → Option Cut → Logged
+clip_by later ring (Some cut) =
+    let i = cut.place.0 in
+    logged (entry (mark_number cut.mark) (before ring i) (here ring i) (after ring i)) (later (remove_at i ring))
+clip_by later ring None = record { ring = ring; log = [] }
 
 -- at most n corners are cut off
 unfoldable pub clip : List Flat → ℕ → List ℕ → Logged

@@ -1,3 +1,4 @@
+pub mod Marks
 pub mod Log
 pub mod Rings
 pub mod Bridges

@@ -3,6 +3,9 @@
 
 #![tactic(auto)]
 
+ghost use Rattle.std.specs.Prelude.{◌≡◌};
+ghost use Rattle.lid.specs.Marks.{mark_number};
+
 // The numbers of a log entry.
 pub const ENTRY_WIDTH: usize = 4;
 
@@ -14,13 +17,6 @@ pub struct CornerNumber(pub u32);
 #[derive(Clone, Copy)]
 pub struct RingPlace(pub usize);
 
-// What a search among a ring's places finds.
-#[derive(Clone, Copy)]
-pub enum FoundPlace {
-    Place(RingPlace),
-    NoPlace,
-}
-
 // A flat corner: the pair of f32 on which the lid is cut.
 #[derive(Clone, Copy)]
 pub struct Flat {
@@ -28,11 +24,11 @@ pub struct Flat {
     pub y: f32,
 }
 
-// What a ray meets: an edge, at which x, and the place of the edge's rightmost end; or nothing.
+// Where a ray meets an edge: at which x, and the place of the edge's rightmost end.
 #[derive(Clone, Copy)]
-pub enum Hit {
-    Edge(f32, RingPlace),
-    Nothing,
+pub struct Hit {
+    pub x: f32,
+    pub end: RingPlace,
 }
 
 // The shallowest slope found so far, and the place where it was found.
@@ -42,18 +38,38 @@ pub struct Seen {
     pub place: RingPlace,
 }
 
-// Where a hole is joined: a place of the ring and a place of the hole; or it stays apart.
+// Where a hole is joined: a place of the ring and a place of the hole.
 #[derive(Clone, Copy)]
-pub enum Bridged {
-    Joined(RingPlace, RingPlace),
-    Unjoined,
+pub struct Bridge {
+    pub place: RingPlace,
+    pub from: RingPlace,
 }
 
-// What is done to a ring: the corner at a place is cut off, under a mark of the log; or nothing.
+// What a log entry tells.
+#[derive(Clone, Copy, PartialEq, Eq)]
+pub enum Mark {
+    Ear = 1,
+    Dropped = 2,
+    Left = 3,
+    Joined = 4,
+    Apart = 5,
+    HoleTooSmall = 6,
+    LidTooSmall = 7,
+}
+
+impl From<Mark> for u32 {
+    ghost from_gives = { λ mark n. n ≡ mark_number mark };
+
+    fn from(mark: Mark) -> u32 {
+        mark as u32
+    }
+}
+
+// A corner that is cut off, an ear or one on a straight run: its mark and its place.
 #[derive(Clone, Copy)]
-pub enum Step {
-    Cut(u32, RingPlace),
-    Stop,
+pub struct Cut {
+    pub mark: Mark,
+    pub place: RingPlace,
 }
 
 // The corner at a place, b, with the one before it and the one after it.
@@ -81,6 +97,13 @@ pub struct Clipped {
     pub triangles: u32,
 }
 
+// How many corners the rings of an outline have: the outer one, and each hole.
+#[derive(Clone, Copy)]
+pub struct CornerCounts<'a> {
+    pub outer: u32,
+    pub holes: &'a [u32],
+}
+
 // How many entries of the log and how many triangles were written.
 #[derive(Clone, Copy)]
 pub struct LidCounts {
@@ -100,11 +123,4 @@ pub struct Surveyed {
 pub struct Prepared {
     pub entries: u32,
     pub holes: usize,
-}
-
-// What the test of a place tells: it is an ear, or it is none, with the note that says why.
-#[derive(Clone, Copy)]
-pub enum Tested {
-    Ear,
-    No(u32),
 }

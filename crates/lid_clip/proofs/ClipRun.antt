@@ -13,9 +13,9 @@ use borrow.Rule.Slice.PartMut.{mid_of, put_mid, same_len_mid}
 use Rattle.lists.specs.Loops.{first, remove_at}
 use Rattle.face_triangle.specs.Triangles.{Triangle, triangle}
 use Rattle.lid.specs.declared.Flat.{Flat}
-use Rattle.lid.specs.declared.RingPlace.{RingPlace}
-use Rattle.lid.specs.declared.Step.{Step}
-use Rattle.lid.specs.declared.Step.TheVariants.{Cut, Stop}
+use Rattle.std.specs.Prelude.{Option, None, Some}
+use Rattle.lid.specs.declared.Cut.{Cut}
+use Rattle.lid.specs.Marks.{mark_number}
 use Rattle.lid.specs.Log.{Entry, logged}
 use Rattle.lid.specs.Clipping.{is_ear, cut_ear, clip_step, clip, clip_by}
 use Rattle.lid.specs.Lid.{ears_of}
@@ -26,25 +26,25 @@ use Rattle.lid_log.proofs.RecordLaws.{log_next, log_end, triangles_some, triangl
 
 -- ---- one step
 
-cond_cut : (b : Bool) (s : Step) (mark : ℕ) (p : RingPlace) → cond b Stop s ≡ Cut mark p → b ≡ false
-cond_cut true s mark p e = absurd (let z : ◌≡◌ {A = ℕ} 0 1 = cc in omega arith)
-cond_cut false s mark p e = refl
+cond_cut : (b : Bool) (s : Option Cut) (cut : Cut) → cond b None s ≡ Some cut → b ≡ false
+cond_cut true s cut e = absurd (let z : ◌≡◌ {A = ℕ} 0 1 = cc in omega arith)
+cond_cut false s cut e = refl
 
 module _ (fs : List Flat) (ring : List ℕ) where
-  pub clip_stop : clip_step fs ring ≡ Stop → (m : ℕ) → clip fs m ring ≡ record { ring = ring; log = [] }
+  pub clip_stop : clip_step fs ring ≡ None → (m : ℕ) → clip fs m ring ≡ record { ring = ring; log = [] }
   unfolding clip clip_by
   clip_stop e zero = refl
   clip_stop e (suc m) = rw e
 
-  module _ (mark : ℕ) (p : RingPlace) (e : clip_step fs ring ≡ Cut mark p) where
+  module _ (cut : Cut) (e : clip_step fs ring ≡ Some cut) where
     pub step_over : 3 < length ring
     unfolding clip_step
-    step_over = leb-false _ _ (cond_cut (leb (length ring) 3) (cut_ear fs ring (first (is_ear fs ring) (length ring) 0)) mark p e)
+    step_over = leb-false _ _ (cond_cut (leb (length ring) 3) (cut_ear fs ring (first (is_ear fs ring) (length ring) 0)) cut e)
 
-    pub step_in : p.0 < length ring
+    pub step_in : cut.place.0 < length ring
     step_in = (rw e at (clip_step_ok fs ring)).1
 
-    clip_go : (m : ℕ) → 3 < m → clip fs m ring ≡ logged (cut_entry mark ring p.0) (clip fs (m - 1) (remove_at p.0 ring))
+    clip_go : (m : ℕ) → 3 < m → clip fs m ring ≡ logged (cut_entry (mark_number cut.mark) ring cut.place.0) (clip fs (m - 1) (remove_at cut.place.0 ring))
     unfolding clip clip_by
     clip_go m h = let s : m ≡ suc (m - 1) = omega arith in ap (λ (k : ℕ). clip fs k ring) s ∙ rw e
 
@@ -112,31 +112,34 @@ clip_start fs ring log n triangles =
       offering = rw all (omega arith);
     }
 
-module _ (fs : List Flat) (ring₀ log₀ : List ℕ) (n : ℕ) (triangles₀ ring log triangles ring' log' triangles' : List ℕ) (from entries count count' mark : ℕ) (p : RingPlace) (x : List ℕ)
+module _ (fs : List Flat) (ring₀ log₀ : List ℕ) (n : ℕ) (triangles₀ ring log triangles ring' log' triangles' : List ℕ) (from entries count count' : ℕ) (cut : Cut) (x : List ℕ)
     (inv : Clipping fs ring₀ log₀ n triangles₀ ring log triangles from entries count)
-    (step : clip_step fs (drop from ring) ≡ Cut mark p)
+    (step : clip_step fs (drop from ring) ≡ Some cut)
     (kept : length ring' ≡ length ring)
     (moved : drop (from + 1) ring' ≡ drop 1 x)
     (log-kept : length log' ≡ length log)
     (triangles-kept : length triangles' ≡ length triangles)
-    (did : Cuts mark (drop from ring) p.0 x log log' entries triangles triangles' count count') where
-  over : 3 < length ring₀ - from
-  over = omega (arith, step_over fs (drop from ring) mark p step, length-drop from ring, inv.long)
+    (did : Cuts (mark_number cut.mark) (drop from ring) cut.place.0 x log log' entries triangles triangles' count count') where
+  abbrev one : Entry
+  one = cut_entry (mark_number cut.mark) (drop from ring) cut.place.0
 
-  whole : clip fs (length ring₀ - from) (drop from ring) ≡ logged (cut_entry mark (drop from ring) p.0) (clip fs (length ring₀ - (from + 1)) (drop (from + 1) ring'))
+  over : 3 < length ring₀ - from
+  over = omega (arith, step_over fs (drop from ring) cut step, length-drop from ring, inv.long)
+
+  whole : clip fs (length ring₀ - from) (drop from ring) ≡ logged one (clip fs (length ring₀ - (from + 1)) (drop (from + 1) ring'))
   whole =
       let less : length ring₀ - from - 1 ≡ length ring₀ - (from + 1) = omega arith in
-      clip_go fs (drop from ring) mark p step (length ring₀ - from) over ∙ rw (less, moved, did.removed)
+      clip_go fs (drop from ring) cut step (length ring₀ - from) over ∙ rw (less, moved, did.removed)
 
-  one_ear : length (ears_of (cut_entry mark (drop from ring) p.0 ∷ [])) ≤ 1
+  one_ear : length (ears_of (one ∷ [])) ≤ 1
   unfolding ears_of
-  one_ear = at_most_one (eqb mark 1) _
+  one_ear = at_most_one (eqb (mark_number cut.mark) 1) _
 
   pub clip_again : Clipping fs ring₀ log₀ n triangles₀ ring' log' triangles' (from + 1) (entries + 1) count'
   unfolding logged
   clip_again =
       let more = (clip fs (length ring₀ - (from + 1)) (drop (from + 1) ring')).log in
-      let e = cut_entry mark (drop from ring) p.0 in
+      let e = one in
       let w : log_with log entries (e ∷ more) ≡ log_with log₀ n (clip fs (length ring₀) ring₀).log = rw whole at inv.writing in
       let c : entries + suc (length more) ≡ n + length (clip fs (length ring₀) ring₀).log = rw whole at inv.counting in
       let d : triangles_with triangles count (ears_of (e ∷ more)) ≡ triangles_with triangles₀ 0 (ears_of (clip fs (length ring₀) ring₀).log) = rw whole at inv.drawing in
@@ -156,7 +159,7 @@ module _ (fs : List Flat) (ring₀ log₀ : List ℕ) (n : ℕ) (triangles₀ ri
       }
 
 pub clip_end : (fs : List Flat) (ring₀ log₀ : List ℕ) (n : ℕ) (triangles₀ ring log triangles : List ℕ) (from entries count : ℕ)
-    → Clipping fs ring₀ log₀ n triangles₀ ring log triangles from entries count → clip_step fs (drop from ring) ≡ Stop
+    → Clipping fs ring₀ log₀ n triangles₀ ring log triangles from entries count → clip_step fs (drop from ring) ≡ None
     → Clips (clip fs (length ring₀) ring₀) ring log₀ log n triangles₀ triangles (record { left = length ring - from; entries = entries; triangles = count })
 unfolding ears_of
 clip_end fs ring₀ log₀ n triangles₀ ring log triangles from entries count inv e =

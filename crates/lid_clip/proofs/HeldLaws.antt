@@ -10,13 +10,14 @@ use lib.Seq.{drop-cons}
 use lib.Dec.{eqb, ltb}
 use lib.Ieee.{Float}
 use borrow.Author.Tests.{eqb-true, ltb-true, ltb-false, lt-leb}
-use Rattle.lists.specs.declared.Found.{Found}
-use Rattle.lists.specs.declared.Found.TheVariants.{At, Nowhere}
+use Rattle.std.specs.Prelude.{Option, None, Some}
 use Rattle.lists.specs.Loops.{first, remove_at}
 use Rattle.lid.specs.declared.Flat.{Flat}
 use Rattle.lid.specs.declared.RingPlace.{RingPlace}
 use Rattle.lid.specs.declared.Corners.{Corners}
-use Rattle.lid.specs.declared.Step.TheVariants.{Cut, Stop}
+use Rattle.lid.specs.declared.Cut.{Cut}
+use Rattle.lid.specs.declared.Mark.TheVariants.{Ear, Dropped}
+use Rattle.lid.specs.Marks.{mark_number}
 use Rattle.lid.specs.Rings.{place_of, corner}
 use Rattle.lid.specs.Clipping.{is_ear, is_straight, cut_straight, cut_ear, clip_step}
 use Rattle.lid.specs.Lid.{ears_of}
@@ -25,7 +26,8 @@ use Rattle.lid.specs.Contract.Steps.{corners_around, Cuts}
 use Rattle.lid.proofs.Facts.{remove_at_size}
 use Rattle.lists.proofs.Buffers.{fill_next, fill_end}
 use Rattle.lid_place.proofs.RemoveLaws.{removed_behind}
-use Rattle.lid_clip_ear.specs.Contract.Ears.{Known, InRingOrder, searched}
+use Rattle.lid_clip_ear.specs.Contract.Ears.{Known, searched}
+use Rattle.lid_clip_ear.specs.Contract.Laid.{InRingOrder}
 use Rattle.lid_clip_ear.specs.Contract.Notes.{NoneFrom, anew, without}
 use Rattle.lid_clip_ear.proofs.NoteLaws.{forgotten_behind, without_size, none_without}
 use Rattle.lid_clip_ear.proofs.EarLaws.{known_none, known_cut, searched_kept}
@@ -85,30 +87,38 @@ held_start fs ring rxs rys why m order e long =
 
 -- ---- the notes that a step leaves
 
-module _ (fs : List Flat) (ring : List ℕ) (p : RingPlace) where
-  not_straight : (g : Found) → cut_straight g ≡ Cut 1 p → ⊥
+module _ (fs : List Flat) (ring : List ℕ) (cut : Cut) (ear : mark_number cut.mark ≡ 1) where
+  not_straight : (g : Option ℕ) → cut_straight g ≡ Some cut → ⊥
   unfolding cut_straight
-  not_straight (At i) e = let z : ◌≡◌ {A = ℕ} 2 1 = cc in omega arith
-  not_straight Nowhere e = let z : ◌≡◌ {A = ℕ} 0 1 = cc in omega arith
+  not_straight (Some i) e =
+      let z : (record { mark = Dropped; place = place_of i }) ≡ cut = cc in
+      let two : 2 ≡ mark_number cut.mark = ap (λ (c : Cut). mark_number c.mark) z in
+      omega (arith, two, ear)
+  not_straight None e = let z : ◌≡◌ {A = ℕ} 0 1 = cc in omega arith
 
-  ear_cut : (f : Found) → cut_ear fs ring f ≡ Cut 1 p → f ≡ At p.0
+  ear_cut : (f : Option ℕ) → cut_ear fs ring f ≡ Some cut → f ≡ Some cut.place.0
   unfolding cut_ear
-  ear_cut (At i) e = let z : place_of i ≡ p = cc in ap (λ (q : RingPlace). At q.0) z
-  ear_cut Nowhere e = absurd (not_straight (first (is_straight fs ring) (length ring) 0) e)
+  ear_cut (Some i) e = let z : (record { mark = Ear; place = place_of i }) ≡ cut = cc in ap (λ (c : Cut). Some c.place.0) z
+  ear_cut None e = absurd (not_straight (first (is_straight fs ring) (length ring) 0) e)
 
   -- an ear is cut off where the search found one
-  ear_found : clip_step fs ring ≡ Cut 1 p → first (is_ear fs ring) (length ring) 0 ≡ At p.0
+  ear_found : clip_step fs ring ≡ Some cut → first (is_ear fs ring) (length ring) 0 ≡ Some cut.place.0
   unfolding clip_step
-  ear_found e = ear_cut (first (is_ear fs ring) (length ring) 0) (rw (lt-leb (length ring) 3 (step_over fs ring 1 p e)) at e)
+  ear_found e = ear_cut (first (is_ear fs ring) (length ring) 0) (rw (lt-leb (length ring) 3 (step_over fs ring cut e)) at e)
 
-module _ (fs : List Flat) (ring : List ℕ) (rxs rys : List Float) (why : List ℕ) (known : ℕ) (held : Held fs ring rxs rys why known) (mark : ℕ) (p : RingPlace)
-    (step : clip_step fs ring ≡ Cut mark p) (why₁ : List ℕ) (now-known : Known fs ring why₁) (now-notes : why₁ ≡ step_notes fs ring why) (now-long : length why₁ ≡ length ring) where
+module _ (fs : List Flat) (ring : List ℕ) (rxs rys : List Float) (why : List ℕ) (known : ℕ) (held : Held fs ring rxs rys why known) (cut : Cut)
+    (step : clip_step fs ring ≡ Some cut) (why₁ : List ℕ) (now-known : Known fs ring why₁) (now-notes : why₁ ≡ step_notes fs ring why) (now-long : length why₁ ≡ length ring) where
+  abbrev mark : ℕ
+  mark = mark_number cut.mark
+
+  abbrev p : RingPlace
+  p = cut.place
+
   ear_none : mark ≡ 1 → (k : ℕ) → p.0 ≤ k → known ≤ k → get_or why₁ k 0 ≡ 0
   unfolding step_notes
   ear_none one k g h =
-      let e : clip_step fs ring ≡ Cut 1 p = rw one at step in
-      let notes : why₁ ≡ searched fs ring (length ring) 0 why = rw (lt-leb (length ring) 3 (step_over fs ring 1 p e)) at now-notes in
-      ap (λ (w : List ℕ). get_or w k 0) notes ∙ searched_kept fs ring (length ring) 0 why (omega arith) held.long held.notes p.0 (ear_found fs ring p e) k g ∙ held.none k h
+      let notes : why₁ ≡ searched fs ring (length ring) 0 why = rw (lt-leb (length ring) 3 (step_over fs ring cut step)) at now-notes in
+      ap (λ (w : List ℕ). get_or w k 0) notes ∙ searched_kept fs ring (length ring) 0 why (omega arith) held.long held.notes p.0 (ear_found fs ring cut one step) k g ∙ held.none k h
 
   pub none_after : (m : ℕ) → m ≡ known_after (length ring) known mark p.0 → NoneFrom m why₁
   unfolding known_after
@@ -144,12 +154,12 @@ module _ (fs : List Flat) (ring : List ℕ) (rxs rys : List Float) (why : List �
       → why' ≡ take 1 (anew p.0 why₁) ++ without p.0 why₁
       → (t : Corners) → t ≡ corners_around ring p.0 → (log log' : List ℕ) (n : ℕ) (triangles triangles' : List ℕ) (count r : ℕ)
       → (log' ≡ log_with log n (entry_of mark t ∷ [])) × (triangles' ≡ triangles_with triangles count (ears_of (entry_of mark t ∷ []))) × (r ≡ count + length (ears_of (entry_of mark t ∷ [])))
-      → Takes fs (clip_step fs ring) ring ring' rxs' rys' why' log log' n triangles triangles' count (record { more = true; known = m - 1; triangles = r })
+      → Takes fs (clip_step fs ring) ring ring' rxs' rys' why' log log' n triangles triangles' count (Some (record { known = m - 1; triangles = r }))
   takes_cut m e below near ring' rxs' rys' why' er eu ev ew t et log log' n triangles triangles' count r wrote =
       let did : Cuts mark ring p.0 ring' log log' n triangles triangles' count r =
       record { removed = removed_behind p.0 ring ring' (omega arith) er; written = rw et at wrote.0; ears = rw et at wrote.1; offered = rw et at wrote.2 } in
-      rw step (refl, did, held_cut m e below near ring' rxs' rys' why' er eu ev ew)
+      rw step (did, held_cut m e below near ring' rxs' rys' why' er eu ev ew)
 
-pub takes_none : (fs : List Flat) (ring : List ℕ) (rxs rys : List Float) (why log : List ℕ) (n : ℕ) (triangles : List ℕ) (count known : ℕ) → clip_step fs ring ≡ Stop
-    → Takes fs (clip_step fs ring) ring ring rxs rys why log log n triangles triangles count (record { more = false; known = known; triangles = count })
-takes_none fs ring rxs rys why log n triangles count known e = rw e (refl, refl, refl, refl)
+pub takes_none : (fs : List Flat) (ring : List ℕ) (rxs rys : List Float) (why log : List ℕ) (n : ℕ) (triangles : List ℕ) (count : ℕ) → clip_step fs ring ≡ None
+    → Takes fs (clip_step fs ring) ring ring rxs rys why log log n triangles triangles count None
+takes_none fs ring rxs rys why log n triangles count e = rw e (refl, refl, refl)

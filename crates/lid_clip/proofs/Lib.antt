@@ -1,3 +1,4 @@
+pub mod MarkLaws
 pub mod ClipRun
 pub mod HeldLaws
 pub mod HeldRun

@@ -7,102 +7,96 @@
 ghost use Rattle.std.specs.Prelude.{◌≡◌, ◌+◌, ◌<◌, ◌≤◌, ◌^◌, length};
 ghost use Rattle.lists.specs.Loops.{first};
 ghost use Rattle.lid.specs.Rings.{turn};
-ghost use Rattle.lid.specs.Contract.Rings.{flats, flats_in};
+ghost use Rattle.lid.specs.Marks.{mark_number};
+ghost use Rattle.lid_flat.specs.Flats.{flats_in};
 ghost use Rattle.lid.specs.Clipping.{is_straight, clip_step};
 ghost use Rattle.lid.specs.Contract.Steps.{numbered, RingClipped};
-ghost use Rattle.lid_clip_ear.specs.Contract.Ears.{Known, InRingOrder};
+ghost use Rattle.lid_clip_ear.specs.Contract.Ears.{Known};
+ghost use Rattle.lid_clip_ear.specs.Contract.Laid.{InRingOrder};
 ghost use Rattle.lid_clip_ear.specs.Contract.Notes.{NoneFrom, PlaceForgotten};
 ghost use Rattle.lid_clip.specs.Contract.StepNotes.{step_notes};
 ghost use Rattle.lid_clip.specs.Contract.Held.{Held, PlaceRemoved, CutWritten, known_after, StepTaken};
 
 use float::MIN_AREA;
-use lid::{Clipped, CornerNumber, Corners, FoundPlace, RingPlace, Step};
+use lid::{Clipped, CornerNumber, Corners, Cut, Mark, RingPlace};
 use lid_clip_ear::find_ear;
+use lid_clip_ear::laid::LaidRing;
 use lid_clip_ear::notes::{forget, forget_all};
-use lid_flat::{flat_at, turn};
+use lid_flat::{Flats, turn};
 use lid_log::{put_entry, put_triangle};
 use lid_place::corners::corners_at;
-use lid_place::{remove, remove_coordinate};
+use lid_place::remove;
 
-// What a step of clipping did: whether a corner was cut off, the place from which on there is no note, and how many triangles there then are.
+// What is left where a corner was cut off: the place from which on there is no note, and how many triangles there then are.
 #[derive(Clone, Copy)]
 pub struct Stepped {
-    pub more: bool,
     pub known: usize,
     pub triangles: u32,
 }
 
 // Whether the corner at a place lies on a straight run.
-fn is_straight(xs: &[f32], ys: &[f32], ring: &[u32], at: RingPlace) -> bool
+fn is_straight(polygon: Flats<'_>, ring: &[u32], at: RingPlace) -> bool
     requires { at.0 < length ring.now }
-    ensures { result ≡ is_straight (flats_in xs ys) ring.now at.0 }
+    ensures { result ≡ is_straight (flats_in polygon.entry) ring.now at.0 }
 {
     let t = corners_at(ring, at);
-    let a = flat_at(xs, ys, t.a);
-    let b = flat_at(xs, ys, t.b);
-    let c = flat_at(xs, ys, t.c);
+    let a = polygon.at(t.a);
+    let b = polygon.at(t.b);
+    let c = polygon.at(t.c);
     float_sign::abs(turn(a, b, c)) < MIN_AREA
 }
 
 // The first place on a straight run.
-fn find_straight(xs: &[f32], ys: &[f32], ring: &[u32]) -> FoundPlace
-    ensures { numbered result ≡ first (is_straight (flats_in xs ys) ring.now) (length ring.now) 0 }
+fn find_straight(polygon: Flats<'_>, ring: &[u32]) -> Option<RingPlace>
+    ensures { numbered result ≡ first (is_straight (flats_in polygon.entry) ring.now) (length ring.now) 0 }
 {
-    let mut i = 0;
-    while i < ring.len() {
+    for i in 0..ring.len() {
         let at = RingPlace(i);
-        if is_straight(xs, ys, ring, at) {
-            return FoundPlace::Place(at);
+        if is_straight(polygon, ring, at) {
+            return Some(at);
         }
-        i += 1;
     }
-    FoundPlace::NoPlace
+    None
 }
 
-// What is done next: an ear is cut off, marked 1, else a corner on a straight run is dropped, marked 2, else clipping ends.
-fn clip_step(
-    xs: &[f32],
-    ys: &[f32],
-    rxs: &[f32],
-    rys: &[f32],
-    ring: &[u32],
-    why: &mut [u32],
-) -> Step
-    requires why_len { length why.old ≡ length ring.now }
-    requires in_ring_order { InRingOrder (flats xs.now ys.now) ring.now rxs.now rys.now }
-    requires known { Known (flats xs.now ys.now) ring.now why.old }
-    ensures value { result ≡ clip_step (flats_in xs ys) ring.now }
-    ensures known_2 { Known (flats_in xs ys) ring.now why.new }
-    ensures why_after { why.new ≡ step_notes (flats_in xs ys) ring.now why.old }
+// What is done next: an ear is cut off, else a corner on a straight run is dropped, else clipping ends.
+fn clip_step(polygon: Flats<'_>, laid: LaidRing<'_>, why: &mut [u32]) -> Option<Cut>
+    requires why_len { length why.old ≡ length laid.ring.now }
+    requires in_ring_order { InRingOrder (flats_in polygon) laid.ring.now laid.flats.xs.now laid.flats.ys.now }
+    requires known { Known (flats_in polygon) laid.ring.now why.old }
+    ensures value { result ≡ clip_step (flats_in polygon.entry) laid.entry.ring.now }
+    ensures known_2 { Known (flats_in polygon.entry) laid.entry.ring.now why.new }
+    ensures why_after { why.new ≡ step_notes (flats_in polygon.entry) laid.entry.ring.now why.old }
 {
-    if ring.len() <= 3 {
-        return Step::Stop;
+    if laid.ring.len() <= 3 {
+        return None;
     }
-    if let FoundPlace::Place(at) = find_ear(xs, ys, rxs, rys, ring, why) {
-        return Step::Cut(1, at);
+    if let Some(place) = find_ear(polygon, laid, why) {
+        return Some(Cut {
+            mark: Mark::Ear,
+            place,
+        });
     }
-    match find_straight(xs, ys, ring) {
-        FoundPlace::Place(at) => Step::Cut(2, at),
-        FoundPlace::NoPlace => Step::Stop,
-    }
+    let place = find_straight(polygon, laid.ring)?;
+    Some(Cut {
+        mark: Mark::Dropped,
+        place,
+    })
 }
 
 // The place from which on there is no note, where a step cuts off the corner at a place of n: an ear is found before the places behind it are tried.
-fn known_after(n: usize, known: usize, mark: u32, at: RingPlace) -> usize
-    requires { (at.0 < n) × (known ≤ n) }
-    ensures { (result ≡ known_after n known mark at.0) × (at.0 < result) × (result ≤ n) }
+fn known_after(n: usize, known: usize, cut: Cut) -> usize
+    requires { (cut.place.0 < n) × (known ≤ n) }
+    ensures { (result ≡ known_after n known (mark_number cut.mark) cut.place.0) × (cut.place.0 < result) × (result ≤ n) }
 {
-    let i = at.0;
-    if mark != 1 {
-        return n;
+    if cut.mark == Mark::Ear {
+        return known.max(cut.place.0 + 1);
     }
-    if i < known {
-        return known;
-    }
-    i + 1
+    n
 }
 
-// Takes the corner at a place out of a ring and of what is held beside it.
+// Takes the corner at a place out of a ring and of what is held beside it. The slices are no struct: of parts that its fields would lend, callers can't
+// prove what came back.
 fn take_out(
     ring: &mut [u32],
     rxs: &mut [f32],
@@ -119,17 +113,25 @@ fn take_out(
 {
     forget(why, at, known);
     remove(ring, at);
-    remove_coordinate(rxs, at);
-    remove_coordinate(rys, at);
+    remove(rxs, at);
+    remove(rys, at);
 }
 
-// Writes the entry of a corner that is cut off and, for an ear, its triangle. The result is how many triangles there then are.
-fn put_cut(log: &mut [u32], n: u32, triangles: &mut [u32], count: u32, mark: u32, t: Corners) -> u32
+// Writes the entry of a corner that is cut off and, for an ear, its triangle. The result is how many triangles there then are. Log and triangles are lent
+// slices with how much of them is taken, since nothing is allocated.
+fn put_cut(
+    log: &mut [u32],
+    n: u32,
+    triangles: &mut [u32],
+    count: u32,
+    mark: Mark,
+    t: Corners,
+) -> u32
     requires { count + 1 < 2 ^ 32 }
-    ensures { CutWritten mark t log n triangles count result }
+    ensures { CutWritten (mark_number mark) t log n triangles count result }
 {
-    put_entry(log, n, mark, t.a.0, t.b.0, t.c.0);
-    if mark == 1 {
+    put_entry(log, n, mark.into(), t.a.0, t.b.0, t.c.0);
+    if mark == Mark::Ear {
         put_triangle(triangles, count, t.a.0, t.b.0, t.c.0);
         return count + 1;
     }
@@ -138,58 +140,52 @@ fn put_cut(log: &mut [u32], n: u32, triangles: &mut [u32], count: u32, mark: u32
 
 // A step of clipping: the corner, if there is one, goes out of the ring and what is held beside it, its entry to the log, an ear's triangle to the
 // triangles.
-fn clip_once(
-    xs: &[f32],
-    ys: &[f32],
-    ring: &mut [u32],
-    rxs: &mut [f32],
-    rys: &mut [f32],
+fn clip_once<'a>(
+    polygon: Flats<'_>,
+    ring: &'a mut [u32],
+    rxs: &'a mut [f32],
+    rys: &'a mut [f32],
     why: &mut [u32],
     known: usize,
     log: &mut [u32],
     n: u32,
     triangles: &mut [u32],
     count: u32,
-) -> Stepped
-    requires held { Held (flats xs.now ys.now) ring.old rxs.old rys.old why.old known }
+) -> Option<Stepped>
+    requires held { Held (flats_in polygon) ring.old rxs.old rys.old why.old known }
     requires ring_bound { count + length ring.old < 2 ^ 32 }
-    ensures { StepTaken (flats_in xs ys) ring rxs rys why log n triangles count result }
+    ensures { StepTaken (flats_in polygon.entry) ring rxs rys why log n triangles count result }
 {
-    let Step::Cut(mark, at) = clip_step(xs, ys, rxs, rys, ring, why) else {
-        return Stepped {
-            more: false,
-            known,
-            triangles: count,
-        };
+    let laid = LaidRing {
+        ring,
+        flats: Flats { xs: rxs, ys: rys },
     };
-    let m = known_after(ring.len(), known, mark, at);
+    let cut = clip_step(polygon, laid, why)?;
+    let at = cut.place;
+    let m = known_after(ring.len(), known, cut);
     let t = corners_at(ring, at);
     take_out(ring, rxs, rys, why, m, at);
-    Stepped {
-        more: true,
+    Some(Stepped {
         known: m - 1,
-        triangles: put_cut(log, n, triangles, count, mark, t),
-    }
+        triangles: put_cut(log, n, triangles, count, cut.mark, t),
+    })
 }
 
 // Lays the coordinates of a ring's corners out in ring order.
-fn lay_out(xs: &[f32], ys: &[f32], ring: &[u32], rxs: &mut [f32], rys: &mut [f32])
+fn lay_out(polygon: Flats<'_>, ring: &[u32], rxs: &mut [f32], rys: &mut [f32])
     requires { (length rxs.old ≡ length ring.now) × (length rys.old ≡ length ring.now) }
-    ensures { InRingOrder (flats_in xs ys) ring.now rxs.new rys.new }
+    ensures { InRingOrder (flats_in polygon.entry) ring.now rxs.new rys.new }
 {
-    let mut k = 0;
-    while k < ring.len() {
-        let f = flat_at(xs, ys, CornerNumber(ring[k]));
+    for (k, p) in ring.iter().enumerate() {
+        let f = polygon.at(CornerNumber(*p));
         rxs[k] = f.x;
         rys[k] = f.y;
-        k += 1;
     }
 }
 
 // Clips a ring that is held with its coordinates and no notes.
 fn clip_held(
-    xs: &[f32],
-    ys: &[f32],
+    polygon: Flats<'_>,
     ring: &mut [u32],
     rxs: &mut [f32],
     rys: &mut [f32],
@@ -199,46 +195,41 @@ fn clip_held(
     triangles: &mut [u32],
 ) -> Clipped
     requires ring_bound { n + length ring.old < 2 ^ 32 }
-    requires held { Held (flats xs.now ys.now) ring.old rxs.old rys.old why.old 0 }
-    ensures { RingClipped (flats_in xs ys) ring log n triangles result }
+    requires held { Held (flats_in polygon) ring.old rxs.old rys.old why.old 0 }
+    ensures { RingClipped (flats_in polygon.entry) ring log n triangles result }
 {
     let mut from = 0;
     let mut known = 0;
     let mut entries = n;
     let mut count = 0;
-    loop {
-        let s = clip_once(
-            xs,
-            ys,
-            &mut ring[from..],
-            &mut rxs[from..],
-            &mut rys[from..],
-            &mut why[from..],
-            known,
-            log,
-            entries,
-            triangles,
-            count,
-        );
-        if !s.more {
-            return Clipped {
-                left: ring.len() - from,
-                entries,
-                triangles: count,
-            };
-        }
+    while let Some(s) = clip_once(
+        polygon,
+        &mut ring[from..],
+        &mut rxs[from..],
+        &mut rys[from..],
+        &mut why[from..],
+        known,
+        log,
+        entries,
+        triangles,
+        count,
+    ) {
         from += 1;
         known = s.known;
         entries += 1;
         count = s.triangles;
+    }
+    Clipped {
+        left: ring.len() - from,
+        entries,
+        triangles: count,
     }
 }
 
 // Clips a ring, with room for the coordinates and a note of each place. Its entries go to the log from entry n on, and the ears to the triangles from the
 // first; the corners left are the last ones of the ring.
 pub fn clip(
-    xs: &[f32],
-    ys: &[f32],
+    polygon: Flats<'_>,
     ring: &mut [u32],
     rxs: &mut [f32],
     rys: &mut [f32],
@@ -249,9 +240,9 @@ pub fn clip(
 ) -> Clipped
     requires ring_bound { n + length ring.old < 2 ^ 32 }
     requires rxs_len { (length rxs.old ≡ length ring.old) × (length rys.old ≡ length ring.old) × (length why.old ≡ length ring.old) }
-    ensures { RingClipped (flats_in xs ys) ring log n triangles result }
+    ensures { RingClipped (flats_in polygon.entry) ring log n triangles result }
 {
-    lay_out(xs, ys, ring, rxs, rys);
+    lay_out(polygon, ring, rxs, rys);
     forget_all(why);
-    clip_held(xs, ys, ring, rxs, rys, why, log, n, triangles)
+    clip_held(polygon, ring, rxs, rys, why, log, n, triangles)
 }

@@ -7,7 +7,7 @@ use Rattle.lists.proofs.Computes.{computes as lists-computes}
 use Rattle.float.specs.Number.{zerof, onef, twof}
 use Rattle.float.proofs.Computes.{computes as float-computes}
 use Rattle.lid.specs.declared.Flat.{Flat}
-use Rattle.lid.specs.declared.Tested.TheVariants.{Ear}
+use Rattle.std.specs.Prelude.{None}
 use Rattle.lid.proofs.Computes.{computes as lid-computes}
 use Rattle.lid_clip_ear.specs.Contract.Notes.{failed_at, down, moved_by, without}
 use Rattle.lid_clip_ear.specs.Contract.Ears.{fails, told, tested, looked, note_down, searched}
@@ -41,7 +41,7 @@ unfolding lists-computes float-computes lid-computes failed_at down moved_by wit
 dart_tests = refl
 
 -- where that corner were cut off, the tests would go on with the corner behind it: the first three tests pass
-pub dart_goes_on : tested dart (1 ∷ 2 ∷ 0 ∷ []) 0 6 ≡ Ear
+pub dart_goes_on : tested dart (1 ∷ 2 ∷ 0 ∷ []) 0 6 ≡ None
 unfolding lists-computes float-computes lid-computes failed_at fails told tested
 dart_goes_on = refl
 

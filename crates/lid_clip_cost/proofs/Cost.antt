@@ -9,14 +9,10 @@ use native.Mathlib.Omega.{arith}
 use lib.ListN.{length, get_or, set, replicate, length-set, length-map, length-replicate}
 use lib.Dec.{eqb, leb, ltb}
 use borrow.Author.Tests.{eqb-false, leb-false, lt-ltb}
-use Rattle.lists.specs.declared.Found.{Found}
-use Rattle.lists.specs.declared.Found.TheVariants.{At, Nowhere}
+use Rattle.std.specs.Prelude.{Option, None, Some}
 use Rattle.lists.specs.Loops.{first, sum_of, next, previous, remove_at}
 use Rattle.lid.specs.declared.Flat.{Flat}
-use Rattle.lid.specs.declared.Step.{Step}
-use Rattle.lid.specs.declared.Step.TheVariants.{Cut, Stop}
-use Rattle.lid.specs.declared.Tested.{Tested}
-use Rattle.lid.specs.declared.Tested.TheVariants.{Ear, No}
+use Rattle.lid.specs.declared.Cut.{Cut}
 use Rattle.lid.specs.Clipping.{clip_step}
 use Rattle.lid.proofs.Facts.{remove_at_size, clip_step_ok, joined_all, ring_size}
 use Rattle.lid_clip_ear.specs.Contract.Notes.{failed_at, moved, without}
@@ -133,12 +129,12 @@ module _ (n : ℕ) (why : List ℕ) (i : ℕ) (long : length why ≡ suc n) (hi 
 
 -- ---- the tests of one place
 
-calls_hit : (p : ℕ → Bool) (m k j : ℕ) → first p m k ≡ At j → calls p m k + k ≡ suc j
+calls_hit : (p : ℕ → Bool) (m k j : ℕ) → first p m k ≡ Some j → calls p m k + k ≡ suc j
 unfolding first calls
 calls_hit p zero k j e = absurd (let z : ◌≡◌ {A = ℕ} 0 1 = cc in omega arith)
 calls_hit p (suc m) k j e = go (p k) e (λ r. calls_hit p m (suc k) j r)
   where
-    go : (t : Bool) → cond t (At k) (first p m (suc k)) ≡ At j → (first p m (suc k) ≡ At j → calls p m (suc k) + suc k ≡ suc j) → suc (cond t 0 (calls p m (suc k))) + k ≡ suc j
+    go : (t : Bool) → cond t (Some k) (first p m (suc k)) ≡ Some j → (first p m (suc k) ≡ Some j → calls p m (suc k) + suc k ≡ suc j) → suc (cond t 0 (calls p m (suc k))) + k ≡ suc j
     go true e later = let z : k ≡ j = cc in omega arith
     go false e later = omega (arith, later e)
 
@@ -153,18 +149,18 @@ calls_most p (suc m) k = go (p k) (calls_most p m (suc k))
 
 module _ (fs : List Flat) (ring : List ℕ) (small : length ring < 2147483647) (i q : ℕ) (low : q ≤ 2 * length ring + 2) where
   -- a place that is no ear: what was tested is known
-  place_no : (w : ℕ) → looked fs ring i q ≡ No w → (known w ≡ known q + place_tests fs ring i q) × (w ≤ 2 * length ring + 2)
+  place_no : (w : ℕ) → looked fs ring i q ≡ Some w → (known w ≡ known q + place_tests fs ring i q) × (w ≤ 2 * length ring + 2)
   unfolding looked tested told failed_at place_tests known
   place_no w e = go (eqb (q % 2) 1) refl e
     where
-      go : (t : Bool) → eqb (q % 2) 1 ≡ t → cond t (No q) (told (first (fails fs ring i) (suc (length ring) - q / 2) (q / 2))) ≡ No w
+      go : (t : Bool) → eqb (q % 2) 1 ≡ t → cond t (Some q) (told (first (fails fs ring i) (suc (length ring) - q / 2) (q / 2))) ≡ Some w
           → ((w + 1) / 2 ≡ (q + 1) / 2 + cond t 0 (calls (fails fs ring i) (suc (length ring) - q / 2) (q / 2))) × (w ≤ 2 * length ring + 2)
       go true t e = let z : q ≡ w = cc in (omega arith, omega arith)
       go false t e = found (first (fails fs ring i) (suc (length ring) - q / 2) (q / 2)) refl e
         where
-          found : (f : Found) → first (fails fs ring i) (suc (length ring) - q / 2) (q / 2) ≡ f → told f ≡ No w
+          found : (f : Option ℕ) → first (fails fs ring i) (suc (length ring) - q / 2) (q / 2) ≡ f → told f ≡ Some w
               → ((w + 1) / 2 ≡ (q + 1) / 2 + calls (fails fs ring i) (suc (length ring) - q / 2) (q / 2)) × (w ≤ 2 * length ring + 2)
-          found (At j) f e =
+          found (Some j) f e =
               let odd = eqb-false (q % 2) 1 t in
               let c = calls_hit (fails fs ring i) (suc (length ring) - q / 2) (q / 2) j f in
               let m = calls_most (fails fs ring i) (suc (length ring) - q / 2) (q / 2) in
@@ -172,7 +168,7 @@ module _ (fs : List Flat) (ring : List ℕ) (small : length ring < 2147483647) (
               let x : cond (ltb j 2147483647) (2 * j + 1) 4294967294 ≡ w = cc in
               let z : 2 * j + 1 ≡ w = rw (lt-ltb j 2147483647 b) at x in
               (omega arith, omega arith)
-          found Nowhere f e = absurd (let z : ◌≡◌ {A = ℕ} 0 1 = cc in omega arith)
+          found None f e = absurd (let z : ◌≡◌ {A = ℕ} 0 1 = cc in omega arith)
 
   place_most : place_tests fs ring i q ≤ suc (length ring)
   unfolding place_tests
@@ -196,11 +192,11 @@ unfolding search_tests searched later_tests note_down
 search_spent fs ring small zero i why h long low = record { cost = omega arith; low = low; long = long }
 search_spent fs ring small (suc m) i why h long low = go (looked fs ring i (get_or why i 0)) refl (λ w a b. search_spent fs ring small m (suc i) w (omega arith) a b)
   where
-    go : (x : Tested) → looked fs ring i (get_or why i 0) ≡ x
+    go : (x : Option ℕ) → looked fs ring i (get_or why i 0) ≡ x
         → ((w : List ℕ) → length w ≡ length ring → Low (length ring) w → Spent (length ring) (search_tests fs ring m (suc i) w) (known_of w) (searched fs ring m (suc i) w))
         → Spent (length ring) (place_tests fs ring i (get_or why i 0) + later_tests (λ w. search_tests fs ring m (suc i) w) why i x) (known_of why) (note_down (λ w. searched fs ring m (suc i) w) why i x)
-    go Ear e later = record { cost = omega (arith, place_most fs ring small i (get_or why i 0) (low_at (length ring) why i low)); low = low; long = long }
-    go (No w) e later =
+    go None e later = record { cost = omega (arith, place_most fs ring small i (get_or why i 0) (low_at (length ring) why i low)); low = low; long = long }
+    go (Some w) e later =
         let p = place_no fs ring small i (get_or why i 0) (low_at (length ring) why i low) w e in
         let s = later (set why i w) (length-set why i w ∙ long) (low_set (length ring) why i w low p.1) in
         record { cost = omega (arith, p.0, s.cost, known_set why i w (omega arith)); low = s.low; long = s.long }
@@ -229,18 +225,19 @@ clip_spent fs (suc f) n ring why e small long low = go (leb (length ring) 3) ref
         spent : Spent (length ring) (search_tests fs ring (length ring) 0 why) (known_of why) (searched fs ring (length ring) 0 why)
         spent = search_spent fs ring (omega arith) (length ring) 0 why (omega arith) (long ∙ sym e) (rw e low)
 
-        next_step : (x : Step) → clip_step fs ring ≡ x
+        next_step : (x : Option Cut) → clip_step fs ring ≡ x
             → search_tests fs ring (length ring) 0 why + behind_tests (λ r w. clip_tests fs f r w) ring (searched fs ring (length ring) 0 why) x + known_of why ≤ 3 * (n * n + n)
-        next_step Stop s =
+        next_step None s =
             omega (arith, over, spent.cost, known_most (length ring) (searched fs ring (length ring) 0 why) spent.low, suc-mul n n, ap (λ (k : ℕ). suc (length ring) * k) spent.long, ap (λ (k : ℕ). suc k * k) e)
-        next_step (Cut mark p) s =
+        next_step (Some cut) s =
+            let p = cut.place.0 in
             let m = length ring - 1 in
             let d : length ring ≡ suc m = omega (arith, over) in
-            let b : p.0 < length ring = (rw s at (clip_step_ok fs ring)).1 in
+            let b : p < length ring = (rw s at (clip_step_ok fs ring)).1 in
             let w = searched fs ring (length ring) 0 why in
             let lw : Low (suc m) w = rw (← d) spent.low in
-            let ih = later m (remove_at p.0 ring) (without p.0 w) (omega (arith, remove_at_size ring p.0 b)) (omega arith) (without_long m w p.0 (spent.long ∙ d) (omega arith) lw) (without_low m w p.0 (spent.long ∙ d) (omega arith) lw) in
-            omega (arith, over, spent.cost, ih, known_without m w p.0 (spent.long ∙ d) (omega arith) lw, more m, ap (λ (k : ℕ). 3 * (k * k + k)) (sym e ∙ d))
+            let ih = later m (remove_at p ring) (without p w) (omega (arith, remove_at_size ring p b)) (omega arith) (without_long m w p (spent.long ∙ d) (omega arith) lw) (without_low m w p (spent.long ∙ d) (omega arith) lw) in
+            omega (arith, over, spent.cost, ih, known_without m w p (spent.long ∙ d) (omega arith) lw, more m, ap (λ (k : ℕ). 3 * (k * k + k)) (sym e ∙ d))
 
 -- clipping a ring of n places, of which nothing is known, makes at most 3 (n n + n) tests
 pub clip_tests_lem : (fs : List Flat) (ring : List ℕ) → length ring < 2147483647 → clip_tests fs (length ring) ring (replicate (length ring) 0) ≤ 3 * (length ring * length ring + length ring)

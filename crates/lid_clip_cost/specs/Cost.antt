@@ -1,11 +1,8 @@
 -- How many tests of places ear clipping makes with notes: of the turn of a place, or of one corner against its triangle. Definitions only.
-use Rattle.std.specs.Prelude.{Bool, cond, List, ℕ, zero, suc, ◌+◌, ◌-◌, ◌/◌, ◌%◌, length, get_or, set, eqb, leb}
+use Rattle.std.specs.Prelude.{Bool, cond, List, ℕ, zero, suc, ◌+◌, ◌-◌, ◌/◌, ◌%◌, length, get_or, set, eqb, leb, Option, None, Some}
 use Rattle.lists.specs.Loops.{remove_at}
 use Rattle.lid.specs.declared.Flat.{Flat}
-use Rattle.lid.specs.declared.Step.{Step}
-use Rattle.lid.specs.declared.Step.TheVariants.{Cut, Stop}
-use Rattle.lid.specs.declared.Tested.{Tested}
-use Rattle.lid.specs.declared.Tested.TheVariants.{Ear, No}
+use Rattle.lid.specs.declared.Cut.{Cut}
 use Rattle.lid.specs.Clipping.{clip_step}
 use Rattle.lid_clip_ear.specs.Contract.Notes.{without}
 use Rattle.lid_clip_ear.specs.Contract.Ears.{fails, looked, searched}
@@ -20,9 +17,9 @@ unfoldable pub place_tests : List Flat → List ℕ → ℕ → ℕ → ℕ
 place_tests fs ring i q = cond (eqb (q % 2) 1) 0 (calls (fails fs ring i) (suc (length ring) - q / 2) (q / 2))
 
 -- of the places behind, where the search goes on
-unfoldable pub later_tests : (List ℕ → ℕ) → List ℕ → ℕ → Tested → ℕ
-later_tests later why i Ear = 0
-later_tests later why i (No q) = later (set why i q)
+unfoldable pub later_tests : (List ℕ → ℕ) → List ℕ → ℕ → Option ℕ → ℕ
+later_tests later why i None = 0
+later_tests later why i (Some q) = later (set why i q)
 
 -- of the m places from place i on, as `searched` makes them
 unfoldable pub search_tests : List Flat → List ℕ → ℕ → ℕ → List ℕ → ℕ
@@ -32,9 +29,9 @@ search_tests fs ring (suc m) i why =
     place_tests fs ring i q + later_tests (λ w. search_tests fs ring m (suc i) w) why i (looked fs ring i q)
 
 -- after a step
-unfoldable pub behind_tests : (List ℕ → List ℕ → ℕ) → List ℕ → List ℕ → Step → ℕ
-behind_tests later ring why (Cut mark i) = later (remove_at i.0 ring) (without i.0 why)
-behind_tests later ring why Stop = 0
+unfoldable pub behind_tests : (List ℕ → List ℕ → ℕ) → List ℕ → List ℕ → Option Cut → ℕ
+behind_tests later ring why (Some cut) = later (remove_at cut.place.0 ring) (without cut.place.0 why)
+behind_tests later ring why None = 0
 
 -- where a ring with notes is clipped, at most n corners cut off, as `clip` of lid does it
 unfoldable pub clip_tests : List Flat → ℕ → List ℕ → List ℕ → ℕ

@@ -11,16 +11,13 @@ use lib.Seq.{get_or-set_same, get_or-set_other, set-get_or}
 use lib.Dec.{eqb, ltb, leb}
 use lib.Ieee.{lt}
 use borrow.Author.Tests.{eqb-true, eqb-false, ltb-true, ltb-false, leb-true, leb-false, not-true, not-false, eq-eqb, ne_eqb}
-use Rattle.lists.specs.declared.Found.{Found}
-use Rattle.lists.specs.declared.Found.TheVariants.{At, Nowhere}
+use Rattle.std.specs.Prelude.{Option, Some, None}
 use Rattle.lists.specs.Loops.{next, previous, first, every, remove_at}
 use Rattle.lists.proofs.Places.{next_inside, next_last, previous_inside, previous_first}
 use Rattle.lists.proofs.Lists.{get_d_any}
 use Rattle.lists.proofs.Loops.{first_start, first_found, first_next, first_end}
 use Rattle.float.specs.Number.{zerof}
 use Rattle.lid.specs.declared.Flat.{Flat}
-use Rattle.lid.specs.declared.Tested.{Tested}
-use Rattle.lid.specs.declared.Tested.TheVariants.{Ear, No}
 use Rattle.lid.specs.Rings.{turn_of}
 use Rattle.lid.specs.Clipping.{before, here, after, clear, is_ear}
 use Rattle.lid.proofs.Facts.{remove_at_size}
@@ -98,34 +95,34 @@ module _ (fs : List Flat) (ring : List ℕ) (i : ℕ) where
       hit_no_ear = fails_not_ear j (omega (arith, h.from, h.within)) h.hit
 
     -- what is told holds
-    tested_ear : tested fs ring i q ≡ Ear → is_ear fs ring i ≡ true
+    tested_ear : tested fs ring i q ≡ None → is_ear fs ring i ≡ true
     unfolding tested told
     tested_ear e = go (first (fails fs ring i) (suc (length ring) - q / 2) (q / 2)) refl e
       where
-        go : (f : Found) → first (fails fs ring i) (suc (length ring) - q / 2) (q / 2) ≡ f → told f ≡ Ear → is_ear fs ring i ≡ true
-        go (At j) f e = absurd (let z : ◌≡◌ {A = ℕ} 0 1 = cc in omega arith)
-        go Nowhere f e = passes_ear (λ l b. below l b (ltb l (q / 2)) refl)
+        go : (f : Option ℕ) → first (fails fs ring i) (suc (length ring) - q / 2) (q / 2) ≡ f → told f ≡ None → is_ear fs ring i ≡ true
+        go (Some j) f e = absurd (let z : ◌≡◌ {A = ℕ} 0 1 = cc in omega arith)
+        go None f e = passes_ear (λ l b. below l b (ltb l (q / 2)) refl)
           where
             below : (l : ℕ) → l ≤ length ring → (t : Bool) → ltb l (q / 2) ≡ t → fails fs ring i l ≡ false
             below l b true t = known.passed l (ltb-true l (q / 2) t)
             below l b false t = let g = ltb-false l (q / 2) t in first_miss (fails fs ring i) (suc (length ring) - q / 2) (q / 2) f l g (omega arith)
 
-    tested_no : (w : ℕ) → tested fs ring i q ≡ No w → Noted fs ring i w × (is_ear fs ring i ≡ false)
+    tested_no : (w : ℕ) → tested fs ring i q ≡ Some w → Noted fs ring i w × (is_ear fs ring i ≡ false)
     unfolding tested told
     tested_no w e = go (first (fails fs ring i) (suc (length ring) - q / 2) (q / 2)) refl e
       where
-        go : (f : Found) → first (fails fs ring i) (suc (length ring) - q / 2) (q / 2) ≡ f → told f ≡ No w → Noted fs ring i w × (is_ear fs ring i ≡ false)
-        go (At j) f e =
+        go : (f : Option ℕ) → first (fails fs ring i) (suc (length ring) - q / 2) (q / 2) ≡ f → told f ≡ Some w → Noted fs ring i w × (is_ear fs ring i ≡ false)
+        go (Some j) f e =
             let h = first_hit_lem (fails fs ring i) (suc (length ring) - q / 2) (q / 2) j f in
             let z : failed_at j ≡ w = cc in
             (rw (← z) (hit_noted j h), hit_no_ear j h)
-        go Nowhere f e = absurd (let z : ◌≡◌ {A = ℕ} 0 1 = cc in omega arith)
+        go None f e = absurd (let z : ◌≡◌ {A = ℕ} 0 1 = cc in omega arith)
 
-    looked_no : (w : ℕ) → looked fs ring i q ≡ No w → Noted fs ring i w × (is_ear fs ring i ≡ false)
+    looked_no : (w : ℕ) → looked fs ring i q ≡ Some w → Noted fs ring i w × (is_ear fs ring i ≡ false)
     unfolding looked
     looked_no w e = go (eqb (q % 2) 1) refl e
       where
-        go : (t : Bool) → eqb (q % 2) 1 ≡ t → cond t (No q) (tested fs ring i q) ≡ No w → Noted fs ring i w × (is_ear fs ring i ≡ false)
+        go : (t : Bool) → eqb (q % 2) 1 ≡ t → cond t (Some q) (tested fs ring i q) ≡ Some w → Noted fs ring i w × (is_ear fs ring i ≡ false)
         go true t e = let z : q ≡ w = cc in (rw (← z) known, stopped_no_ear (eqb-true (q % 2) 1 t))
         go false t e = tested_no w e
 
@@ -327,11 +324,11 @@ module _ (fs : List Flat) (ring : List ℕ) (n i : ℕ) (why t : List ℕ) where
       let e : n - i ≡ suc (n - (i + 1)) = omega arith in
       ap (λ (m : ℕ). searched fs ring m i why) e ∙ rw (add-one i)
 
-  search_next : (w : ℕ) → i < n → looked fs ring i (get_or why i 0) ≡ No w → searched fs ring (n - i) i why ≡ t → searched fs ring (n - (i + 1)) (i + 1) (set why i w) ≡ t
+  search_next : (w : ℕ) → i < n → looked fs ring i (get_or why i 0) ≡ Some w → searched fs ring (n - i) i why ≡ t → searched fs ring (n - (i + 1)) (i + 1) (set why i w) ≡ t
   unfolding note_down
   search_next w h e s = sym (step h ∙ ap (note_down (λ w. searched fs ring (n - (i + 1)) (i + 1) w) why i) e) ∙ s
 
-  search_found : i < n → looked fs ring i (get_or why i 0) ≡ Ear → searched fs ring (n - i) i why ≡ t → why ≡ t
+  search_found : i < n → looked fs ring i (get_or why i 0) ≡ None → searched fs ring (n - i) i why ≡ t → why ≡ t
   unfolding note_down
   search_found h e s = sym (step h ∙ ap (note_down (λ w. searched fs ring (n - (i + 1)) (i + 1) w) why i) e) ∙ s
 
@@ -340,7 +337,7 @@ module _ (fs : List Flat) (ring : List ℕ) (n i : ℕ) (why t : List ℕ) where
   search_end h s = let e : n - i ≡ 0 = omega arith in rw e at s
 
 -- a place that is noted to fail a test is passed over
-looked_odd : (fs : List Flat) (ring : List ℕ) (i q : ℕ) → q % 2 ≡ 1 → looked fs ring i q ≡ No q
+looked_odd : (fs : List Flat) (ring : List ℕ) (i q : ℕ) → q % 2 ≡ 1 → looked fs ring i q ≡ Some q
 unfolding looked
 looked_odd fs ring i q e = rw (eq-eqb (q % 2) 1 e)
 
@@ -358,7 +355,7 @@ pub record Looking (fs : List Flat) (ring why₀ why : List ℕ) (i : ℕ) : Typ
   pub notes : searched fs ring (length ring - i) i why ≡ searched fs ring (length ring) 0 why₀
 
 -- the search has ended with r
-abbrev pub Looked : List Flat → List ℕ → List ℕ → List ℕ → Found → Type 0
+abbrev pub Looked : List Flat → List ℕ → List ℕ → List ℕ → Option ℕ → Type 0
 Looked fs ring why₀ why r =
     (r ≡ first (is_ear fs ring) (length ring) 0) × ((why ≡ searched fs ring (length ring) 0 why₀) × Known fs ring why)
 
@@ -368,11 +365,11 @@ module _ (fs : List Flat) (ring why₀ why : List ℕ) where
       let none : length ring - 0 ≡ length ring = omega arith in
       record { long = long; known = known; near = omega arith; ears = first_start _ _; notes = ap (λ (m : ℕ). searched fs ring m 0 why) none }
 
-  pub looking_end : (i : ℕ) → length ring ≤ i → Looking fs ring why₀ why i → Looked fs ring why₀ why Nowhere
+  pub looking_end : (i : ℕ) → length ring ≤ i → Looking fs ring why₀ why i → Looked fs ring why₀ why None
   looking_end i h l = (first_end _ _ i _ h l.ears, (search_end fs ring (length ring) i why _ h l.notes, l.known))
 
   module _ (i : ℕ) (h : i < length ring) (l : Looking fs ring why₀ why i) where
-    next_place : (w : ℕ) → looked fs ring i (get_or why i 0) ≡ No w → Looking fs ring why₀ (set why i w) (i + 1)
+    next_place : (w : ℕ) → looked fs ring i (get_or why i 0) ≡ Some w → Looking fs ring why₀ (set why i w) (i + 1)
     next_place w e =
         let n = looked_no fs ring i (get_or why i 0) (l.known.noted i h) w e in
         record {
@@ -387,10 +384,10 @@ module _ (fs : List Flat) (ring why₀ why : List ℕ) where
     looking_pass e = rw (set-get_or why i 0) at (next_place (get_or why i 0) (looked_odd fs ring i (get_or why i 0) e))
 
     module _ (even : get_or why i 0 % 2 ≡ 1 → ⊥) where
-      pub looking_next : (w : ℕ) → tested fs ring i (get_or why i 0) ≡ No w → Looking fs ring why₀ (set why i w) (i + 1)
+      pub looking_next : (w : ℕ) → tested fs ring i (get_or why i 0) ≡ Some w → Looking fs ring why₀ (set why i w) (i + 1)
       looking_next w e = next_place w (looked_even fs ring i (get_or why i 0) even ∙ e)
 
-      pub looking_found : tested fs ring i (get_or why i 0) ≡ Ear → Looked fs ring why₀ why (At i)
+      pub looking_found : tested fs ring i (get_or why i 0) ≡ None → Looked fs ring why₀ why (Some i)
       looking_found e = (
         first_found _ _ i _ h (tested_ear fs ring i (get_or why i 0) (l.known.noted i h) e) l.ears,
         (search_found fs ring (length ring) i why _ h (looked_even fs ring i (get_or why i 0) even ∙ e) l.notes, l.known),
@@ -399,17 +396,17 @@ module _ (fs : List Flat) (ring why₀ why : List ℕ) where
 -- ---- a search that finds place p keeps the notes from there on
 
 pub searched_kept : (fs : List Flat) (ring : List ℕ) (m i : ℕ) (why : List ℕ) → i + m ≤ length ring → length why ≡ length ring → Known fs ring why
-    → (p : ℕ) → first (is_ear fs ring) m i ≡ At p → (k : ℕ) → p ≤ k → get_or (searched fs ring m i why) k 0 ≡ get_or why k 0
+    → (p : ℕ) → first (is_ear fs ring) m i ≡ Some p → (k : ℕ) → p ≤ k → get_or (searched fs ring m i why) k 0 ≡ get_or why k 0
 unfolding searched first note_down
 searched_kept fs ring zero i why fit long known p e k g = absurd (let z : ◌≡◌ {A = ℕ} 0 1 = cc in omega arith)
 searched_kept fs ring (suc m) i why fit long known p e k g = go (looked fs ring i (get_or why i 0)) refl (λ w n l r. searched_kept fs ring m (suc i) (set why i w) (omega arith) l n p r k g)
   where
-    go : (t : Tested) → looked fs ring i (get_or why i 0) ≡ t
-        → ((w : ℕ) → Known fs ring (set why i w) → length (set why i w) ≡ length ring → first (is_ear fs ring) m (suc i) ≡ At p → get_or (searched fs ring m (suc i) (set why i w)) k 0 ≡ get_or (set why i w) k 0)
+    go : (t : Option ℕ) → looked fs ring i (get_or why i 0) ≡ t
+        → ((w : ℕ) → Known fs ring (set why i w) → length (set why i w) ≡ length ring → first (is_ear fs ring) m (suc i) ≡ Some p → get_or (searched fs ring m (suc i) (set why i w)) k 0 ≡ get_or (set why i w) k 0)
         → get_or (note_down (λ w. searched fs ring m (suc i) w) why i t) k 0 ≡ get_or why k 0
-    go Ear t later = refl
-    go (No w) t later =
+    go None t later = refl
+    go (Some w) t later =
         let n = looked_no fs ring i (get_or why i 0) (known.noted i (omega arith)) w t in
-        let r : first (is_ear fs ring) m (suc i) ≡ At p = rw n.1 at e in
+        let r : first (is_ear fs ring) m (suc i) ≡ Some p = rw n.1 at e in
         let h = first_hit_lem (is_ear fs ring) m (suc i) p r in
         later w (known_set fs ring why i w (omega arith) known n.0) (length-set why i w ∙ long) r ∙ get_or-set_other why i k w 0 (λ z. omega (arith, h.from))

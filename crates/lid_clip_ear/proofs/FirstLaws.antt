@@ -6,7 +6,7 @@ use native.Mathlib.Numerals.{add-one}
 use native.Mathlib.Omega.{arith}
 use lib.Dec.{eqb}
 use borrow.Author.Tests.{eqb-true, eqb-false}
-use Rattle.lists.specs.declared.Found.TheVariants.{At, Nowhere}
+use Rattle.std.specs.Prelude.{Some, None}
 use Rattle.lists.specs.Loops.{first}
 use Rattle.lid_clip_ear.specs.Contract.Ears.{behind}
 
@@ -25,12 +25,12 @@ one_more p k l e h more = go (eqb l k) refl
     go true t = let z : l ≡ k = eqb-true l k t in rw z e
     go false t = let z : (l ≡ k → ⊥) = eqb-false l k t in more (omega arith)
 
-pub first_hit_lem : (p : ℕ → Bool) (m k j : ℕ) → first p m k ≡ At j → Hit p m k j
+pub first_hit_lem : (p : ℕ → Bool) (m k j : ℕ) → first p m k ≡ Some j → Hit p m k j
 unfolding first
 first_hit_lem p zero k j e = absurd (let z : ◌≡◌ {A = ℕ} 0 1 = cc in omega arith)
 first_hit_lem p (suc m) k j e = go (p k) refl e (λ r. first_hit_lem p m (suc k) j r)
   where
-    go : (t : Bool) → p k ≡ t → cond t (At k) (first p m (suc k)) ≡ At j → (first p m (suc k) ≡ At j → Hit p m (suc k) j) → Hit p (suc m) k j
+    go : (t : Bool) → p k ≡ t → cond t (Some k) (first p m (suc k)) ≡ Some j → (first p m (suc k) ≡ Some j → Hit p m (suc k) j) → Hit p (suc m) k j
     go true t e later =
         let z : k ≡ j = cc in
         record { from = omega arith; within = omega arith; hit = rw (← z) t; missed = λ l g h. absurd (let n : ⊥ = omega arith in n) }
@@ -38,12 +38,12 @@ first_hit_lem p (suc m) k j e = go (p k) refl e (λ r. first_hit_lem p m (suc k)
         let h = later e in
         record { from = omega (arith, h.from); within = omega (arith, h.within); hit = h.hit; missed = λ l g b. one_more p k l t g (λ s. h.missed l s b) }
 
-pub first_miss : (p : ℕ → Bool) (m k : ℕ) → first p m k ≡ Nowhere → (l : ℕ) → k ≤ l → l < k + m → p l ≡ false
+pub first_miss : (p : ℕ → Bool) (m k : ℕ) → first p m k ≡ None → (l : ℕ) → k ≤ l → l < k + m → p l ≡ false
 unfolding first
 first_miss p zero k e l g h = absurd (let n : ⊥ = omega arith in n)
 first_miss p (suc m) k e l g h = go (p k) refl e (λ r s. first_miss p m (suc k) r l s (omega arith))
   where
-    go : (t : Bool) → p k ≡ t → cond t (At k) (first p m (suc k)) ≡ Nowhere → (first p m (suc k) ≡ Nowhere → suc k ≤ l → p l ≡ false) → p l ≡ false
+    go : (t : Bool) → p k ≡ t → cond t (Some k) (first p m (suc k)) ≡ None → (first p m (suc k) ≡ None → suc k ≤ l → p l ≡ false) → p l ≡ false
     go true t e later = absurd (let z : ◌≡◌ {A = ℕ} 0 1 = cc in omega arith)
     go false t e later = one_more p k l t g (later e)
 
@@ -53,12 +53,12 @@ unfolding first behind
 first_behind p zero k = refl
 first_behind p (suc m) k = go (p (suc k)) (first_behind p m (suc k))
   where
-    go : (t : Bool) → first p m (suc (suc k)) ≡ behind (first (λ j. p (suc j)) m (suc k)) → cond t (At (suc k)) (first p m (suc (suc k))) ≡ behind (cond t (At k) (first (λ j. p (suc j)) m (suc k)))
-    go true later = ap At (sym (add-one k))
+    go : (t : Bool) → first p m (suc (suc k)) ≡ behind (first (λ j. p (suc j)) m (suc k)) → cond t (Some (suc k)) (first p m (suc (suc k))) ≡ behind (cond t (Some k) (first (λ j. p (suc j)) m (suc k)))
+    go true later = ap Some (sym (add-one k))
     go false later = later
 
 -- tests that agree where they are made
 pub first_same : (p q : ℕ → Bool) (m k : ℕ) → ((l : ℕ) → k ≤ l → l < k + m → p l ≡ q l) → first p m k ≡ first q m k
 unfolding first
 first_same p q zero k e = refl
-first_same p q (suc m) k e = rw (e k (omega arith) (omega arith)) (ap (cond (q k) (At k)) (first_same p q m (suc k) (λ l g h. e l (omega arith) (omega arith))))
+first_same p q (suc m) k e = rw (e k (omega arith) (omega arith)) (ap (cond (q k) (Some k)) (first_same p q m (suc k) (λ l g h. e l (omega arith) (omega arith))))

@@ -6,16 +6,16 @@ use Prim.Native.Nat.{ℕ, zero, suc, ◌+◌, ◌-◌, ◌*◌, ◌<◌, ◌≤�
 use native.Mathlib.Nat.{le_of_suc-le-suc, not-suc-le-zero}
 use native.Mathlib.Numerals.{add-one}
 use native.Mathlib.Omega.{arith}
-use lib.ListN.{length, get_or, take, drop, set, replicate, length-set, length-map, length-replicate, get_or-replicate, take-append-drop, get_or-map}
-use lib.Seq.{get_or-set_same, get_or-set_other, get_or-drop, ext_get_or, length-take-le, drop_at}
+use lib.ListN.{length, get_or, take, drop, set, length-set, length-map, take-append-drop, get_or-map}
+use lib.Seq.{get_or-set_same, get_or-set_other, get_or-drop, ext_get_or, length-take-le, take_at, drop_at}
 use lib.Dec.{eqb, ltb}
 use borrow.Rule.Slice.PartMut.{mid_of, put_mid, same_len_mid}
 use borrow.Author.Tests.{eqb-true, eqb-false, ltb-true, ltb-false, lt-ltb, le-ltb}
+use Rattle.std.specs.List.{copy_within}
 use Rattle.lists.specs.Loops.{next, previous, remove_at}
 use Rattle.lists.proofs.Lists.{get_d_any, map-append}
 use Rattle.lid.proofs.Areas.Ring.{remove_at_is}
 use Rattle.lid.proofs.Facts.{remove_at_size}
-use Rattle.lid_place.proofs.RemoveLaws.{first_kept}
 use Rattle.lid_clip_ear.specs.Contract.Notes.{down, moved_by, moved, capped, moved_before, NoneFrom, anew, without}
 
 -- ---- places after a removal
@@ -100,39 +100,19 @@ fits_anew zero (q ∷ why) h (suc k) = h (suc k)
 fits_anew (suc i) (q ∷ why) h zero = h 0
 fits_anew (suc i) (q ∷ why) h (suc k) = fits_anew i why (λ k. h (suc k)) k
 
--- ---- the loop of `shift_before`: the notes behind place k, and those before it moved
+-- ---- `shift_before`: the notes before place i, moved, one place on
 
-step_up : (f : ℕ → ℕ) (l : List ℕ) (j v : ℕ) → suc j < length l → v ≡ f (get_or l j 0) → map f (take j (set l (suc j) v)) ++ drop (suc j) (set l (suc j) v) ≡ map f (take (suc j) l) ++ drop (suc (suc j)) l
-step_up f [] j v h e = absurd (not-suc-le-zero h)
-step_up f (x ∷ []) j v h e = absurd (not-suc-le-zero (le_of_suc-le-suc h))
-step_up f (x ∷ (y ∷ ys)) zero v h e = rw e
-step_up f (x ∷ (y ∷ ys)) (suc j) v h e = ap (λ (r : List ℕ). f x ∷ r) (step_up f (y ∷ ys) j v (le_of_suc-le-suc h) e)
-
-pub record Raising (low : ℕ) (old : List ℕ) (i : ℕ) (new : List ℕ) (k : ℕ) : Type 0 where
-  pub long : length new ≡ length old
-  pub near : k ≤ i
-  pub rest : moved_before low k new ≡ moved_before low i old
-
-module _ (low : ℕ) (old : List ℕ) (i : ℕ) where
-  pub raising_start : Raising low old i old i
-  raising_start = record { long = refl; near = omega arith; rest = refl }
-
-  pub raising_next : (new : List ℕ) (k v : ℕ) → 0 < k → i < length old → v ≡ moved_by low (get_or new (k - 1) 0) → Raising low old i new k → Raising low old i (set new k v) (k - 1)
-  raising_next new zero v h b e r = absurd (not-suc-le-zero h)
-  raising_next new (suc k) v h b e r =
-      let down-one : suc k - 1 ≡ k = omega arith in
-      let e' : v ≡ moved_by low (get_or new k 0) = rw down-one at e in
-      let up : map (moved_by low) (take k (set new (suc k) v)) ++ drop (k + 1) (set new (suc k) v) ≡ map (moved_by low) (take (suc k) new) ++ drop (suc k + 1) new =
-      rw (add-one k, add-one (suc k)) (step_up (moved_by low) new k v (omega (arith, r.near, r.long)) e') in
-      rw down-one (record {
-        long = length-set new (suc k) v ∙ r.long;
-        near = omega (arith, r.near);
-        rest = rw (first_kept new k v, up) r.rest;
-      })
-
-  pub raising_end : (new : List ℕ) (k : ℕ) → k ≤ 0 → Raising low old i new k → new ≡ moved_before low i old
-  raising_end new zero h r = sym (take-append-drop 1 new) ∙ r.rest
-  raising_end new (suc k) h r = absurd (not-suc-le-zero h)
+pub raised : (low : ℕ) (why mid e : List ℕ) (i n : ℕ) → i < length why → n ≡ i → mid ≡ copy_within why 0 i 1 → e ≡ map (moved_by low) (mid_of 1 n mid) → put_mid 1 n mid e ≡ moved_before low i why
+raised low [] mid e i n h en em ee = absurd (not-suc-le-zero h)
+raised low (x ∷ xs) mid e i n h en em ee =
+    let before = take i (x ∷ xs) in
+    let behind = drop (i + 1) (x ∷ xs) in
+    let size : length before ≡ n = length-take-le i (x ∷ xs) (omega arith) ∙ sym en in
+    let on : 1 + (i - 0) ≡ i + 1 = omega arith in
+    let all : i - 0 ≡ i = omega arith in
+    let laid : mid ≡ x ∷ (before ++ behind) = em ∙ rw (on, all) in
+    let moved_on : e ≡ map (moved_by low) before = ee ∙ rw (laid, take_at before behind n size) in
+    rw (laid, drop_at before behind n size, moved_on)
 
 -- ---- `forget`: place i is taken out of mid, the notes with those of its neighbours anew
 
@@ -224,7 +204,7 @@ none_without i known why near h none k g =
     let out : get_or (remove_at i mid) k 0 ≡ 0 = rem_high mid i k (omega (arith, anew_long why (previous (length why) i) (next (length why) i))) (omega arith) ∙ zero-behind in
     ap (get_or (map (moved i) (remove_at i mid)) k) (sym (moved_nothing (2 * i + 2))) ∙ get_or-map (moved i) (remove_at i mid) k 0 ∙ ap (moved i) out ∙ moved_nothing (2 * i + 2)
 
--- ---- the loops of `shift_all` and `forget_all`: places below k are done
+-- ---- the loop of `shift_all`: places below k are done
 
 pub record Sweep (f : ℕ → ℕ) (old new : List ℕ) (k : ℕ) : Type 0 where
   pub long : length new ≡ length old
@@ -258,8 +238,3 @@ sweep_map f old new k h s = ext_get_or 0 new (map f old) (s.long ∙ sym (length
     one p g =
         s.done p (omega arith) ∙ sym (get_or-map f old p 0)
         ∙ get_d_any (map f old) p (f 0) 0 (omega (arith, length-map old f, s.long))
-
-pub sweep_blank : (old new : List ℕ) (k : ℕ) → length new ≤ k → Sweep (λ q. 0) old new k → new ≡ replicate (length old) 0
-sweep_blank old new k h s =
-    ext_get_or 0 new (replicate (length old) 0) (s.long ∙ sym (length-replicate (length old) 0))
-    (λ p g. s.done p (omega arith) ∙ sym (get_or-replicate (length old) p 0 0 (omega (arith, s.long))))

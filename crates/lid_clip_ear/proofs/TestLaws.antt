@@ -9,19 +9,21 @@ use lib.ListN.{length, get_or, length-map, get_or-map}
 use lib.Dec.{eqb, ltb}
 use borrow.Author.Tests.{ltb-true, ltb-false}
 use lib.Ieee.{Float, lt, nan}
-use Rattle.lists.specs.declared.Found.{Found}
+use Rattle.std.specs.Prelude.{Option, Some, None, MatchOption, IsSomeAnd}
+use Rattle.lid.specs.declared.RingPlace.{RingPlace}
 use Rattle.lists.specs.Loops.{first}
 use Rattle.lists.proofs.Lists.{get_d_any}
 use Rattle.lists.proofs.Loops.{first_skip}
 use Rattle.float.specs.Number.{zerof}
 use Rattle.lid.specs.declared.Flat.{Flat}
-use Rattle.lid.specs.declared.Corners.{Corners}
-use Rattle.lid.specs.declared.Tested.TheVariants.{No}
 use Rattle.lid.specs.Rings.{corner, turn, turn_of}
 use Rattle.lid.specs.Clipping.{before, here, after, clear}
-use Rattle.lid.specs.Contract.Steps.{corners_around, clear_by}
+use Rattle.lid.specs.Contract.Steps.{numbered, corners_around, clear_by}
 use Rattle.lid_clip_ear.specs.Contract.Notes.{failed_at}
-use Rattle.lid_clip_ear.specs.Contract.Ears.{fails, InRingOrder, flat_at, clear_at, blocks_at, beyond_at, four, first_at, told, tested, behind}
+use Rattle.lid_clip_ear.specs.declared.laid.Candidate.{Candidate}
+use Rattle.lid_clip_ear.specs.declared.laid.LaidRing.{LaidRing}
+use Rattle.lid_clip_ear.specs.Contract.Ears.{fails, told, tested, behind}
+use Rattle.lid_clip_ear.specs.Contract.Laid.{InRingOrder, flat_at, clear_at, blocks_at, beyond_at, four, first_at}
 use Rattle.lid_clip_ear.proofs.FirstLaws.{first_behind, first_same}
 
 -- ---- four corners at a time
@@ -51,27 +53,38 @@ or-true true t e = refl
 or-true false t e = e
 
 -- a corner beyond the diagonal is clear
-beyond_clear : (rxs rys : List Float) (ring : List ℕ) (t : Corners) (a b c : Flat) (k : ℕ) → beyond_at rxs rys a c k ≡ true → clear_at rxs rys ring t a b c k ≡ true
-beyond_clear rxs rys ring t a b c k e =
-    let p = get_or ring k 0 in
-    let q = flat_at rxs rys k in
-    or-true (eqb p t.a.0 || eqb p t.b.0 || eqb p t.c.0 || lt (turn a b q) zerof || lt (turn b c q) zerof) (lt (turn c a q) zerof) e
+beyond_clear : (laid : LaidRing) (t : Candidate) (k : ℕ) → beyond_at laid t k ≡ true → clear_at laid t k ≡ true
+beyond_clear laid t k e =
+    let n = t.corners in
+    let p = get_or laid.ring.now k 0 in
+    let q = flat_at laid k in
+    or-true (eqb p n.a.0 || eqb p n.b.0 || eqb p n.c.0 || lt (turn t.a t.b q) zerof || lt (turn t.b t.c q) zerof) (lt (turn t.c t.a q) zerof) e
 
-module _ (rxs rys : List Float) (ring : List ℕ) (t : Corners) (a b c : Flat) (k : ℕ) (found : Found) (h : k + 4 ≤ length ring) (so_far : first_at rxs rys ring t a b c k ≡ found) where
-  pass : ((j : ℕ) → j < 4 → clear_at rxs rys ring t a b c (k + j) ≡ true) → first_at rxs rys ring t a b c (k + 4) ≡ found
-  pass e = first_skip (blocks_at rxs rys ring t a b c) (length ring) 4 k found h (λ j g. ap not (e j g)) so_far
+module _ (laid : LaidRing) (t : Candidate) (k : ℕ) (found : Option ℕ) (h : k + 4 ≤ length laid.ring.now) (so_far : first_at laid t k ≡ found) where
+  pass : ((j : ℕ) → j < 4 → clear_at laid t (k + j) ≡ true) → first_at laid t (k + 4) ≡ found
+  pass e = first_skip (blocks_at laid t) (length laid.ring.now) 4 k found h (λ j g. ap not (e j g)) so_far
 
-  pub pass_clear : four (clear_at rxs rys ring t a b c) k ≡ true → first_at rxs rys ring t a b c (k + 4) ≡ found
-  pass_clear e = pass (four_all (clear_at rxs rys ring t a b c) k e)
+  pub pass_clear : four (clear_at laid t) k ≡ true → first_at laid t (k + 4) ≡ found
+  pass_clear e = pass (four_all (clear_at laid t) k e)
 
-  pub pass_beyond : four (beyond_at rxs rys a c) k ≡ true → first_at rxs rys ring t a b c (k + 4) ≡ found
-  pass_beyond e = pass (λ j g. beyond_clear rxs rys ring t a b c (k + j) (four_all (beyond_at rxs rys a c) k e j g))
+  pub pass_beyond : four (beyond_at laid t) k ≡ true → first_at laid t (k + 4) ≡ found
+  pass_beyond e = pass (λ j g. beyond_clear laid t (k + j) (four_all (beyond_at laid t) k e j g))
+
+-- a place that was found, mapped to its note
+pub told_of : (found : Option RingPlace) (f r : Option ℕ) → MatchOption found (r ≡ None) (λ p. IsSomeAnd r (λ w. w ≡ failed_at (p.0 + 1))) → numbered found ≡ f → r ≡ told (behind f)
+unfolding told behind
+told_of None f r mapped e = rw (← e) mapped
+told_of (Some p) f None mapped e = absurd mapped
+told_of (Some p) f (Some w) mapped e = rw (← e, mapped)
 
 -- ---- the corner at a place
 
-pub flat_is : (fs : List Flat) (ring : List ℕ) (rxs rys : List Float) (k : ℕ) → InRingOrder fs ring rxs rys → k < length ring → flat_at rxs rys k ≡ corner fs (get_or ring k 0)
-flat_is fs ring rxs rys k o h = ap₂ flat (read (λ p. (corner fs p).x) rxs o.first_coordinates) (read (λ p. (corner fs p).y) rys o.second_coordinates)
+flat_is : (fs : List Flat) (laid : LaidRing) (k : ℕ) → InRingOrder fs laid.ring.now laid.flats.xs.now laid.flats.ys.now → k < length laid.ring.now → flat_at laid k ≡ corner fs (get_or laid.ring.now k 0)
+flat_is fs laid k o h = ap₂ flat (read (λ p. (corner fs p).x) laid.flats.xs.now o.first_coordinates) (read (λ p. (corner fs p).y) laid.flats.ys.now o.second_coordinates)
   where
+    ring : List ℕ
+    ring = laid.ring.now
+
     flat : Float → Float → Flat
     flat x y = record { x = x; y = y }
 
@@ -86,25 +99,28 @@ order_long fs ring rxs rys o = (
 
 -- ---- one place
 
-module _ (fs : List Flat) (rxs rys : List Float) (ring : List ℕ) (order : InRingOrder fs ring rxs rys) (i q : ℕ) (t : Corners) (a b c : Flat) (corners : t ≡ corners_around ring i)
-    (at_a : a ≡ corner fs t.a.0) (at_b : b ≡ corner fs t.b.0) (at_c : c ≡ corner fs t.c.0) where
-  turns : (r : Bool) → lt zerof (turn a b c) ≡ r → lt zerof (turn_of fs (before ring i) (here ring i) (after ring i)) ≡ r
+module _ (fs : List Flat) (laid : LaidRing) (order : InRingOrder fs laid.ring.now laid.flats.xs.now laid.flats.ys.now) (i q : ℕ) (t : Candidate) (corners : t.corners ≡ corners_around laid.ring.now i)
+    (at_a : t.a ≡ corner fs t.corners.a.0) (at_b : t.b ≡ corner fs t.corners.b.0) (at_c : t.c ≡ corner fs t.corners.c.0) where
+  abbrev ring : List ℕ
+  ring = laid.ring.now
+
+  turns : (r : Bool) → lt zerof (turn t.a t.b t.c) ≡ r → lt zerof (turn_of fs (before ring i) (here ring i) (after ring i)) ≡ r
   unfolding turn_of
   turns r h = simp (at_a, at_b, at_c, corners) at h
 
-  by_number : (k : ℕ) → fails fs ring i (suc k) ≡ not (clear_by t a b c (get_or ring k 0) (corner fs (get_or ring k 0)))
+  by_number : (k : ℕ) → fails fs ring i (suc k) ≡ not (clear_by t.corners t.a t.b t.c (get_or ring k 0) (corner fs (get_or ring k 0)))
   unfolding fails turn_of clear
   by_number k = simp (at_a, at_b, at_c, corners)
 
-  same_block : (k : ℕ) → k < length ring → fails fs ring i (suc k) ≡ blocks_at rxs rys ring t a b c k
-  same_block k h = by_number k ∙ ap (λ (f : Flat). not (clear_by t a b c (get_or ring k 0) f)) (sym (flat_is fs ring rxs rys k order h))
+  same_block : (k : ℕ) → k < length ring → fails fs ring i (suc k) ≡ blocks_at laid t k
+  same_block k h = by_number k ∙ ap (λ (f : Flat). not (clear_by t.corners t.a t.b t.c (get_or ring k 0) f)) (sym (flat_is fs laid k order h))
 
   -- the tests behind test k + 1 are those of the corners from place k on
-  from_corner : (m k : ℕ) → (0 < m → k + m ≤ length ring) → first (fails fs ring i) m (suc k) ≡ behind (first (blocks_at rxs rys ring t a b c) m k)
+  from_corner : (m k : ℕ) → (0 < m → k + m ≤ length ring) → first (fails fs ring i) m (suc k) ≡ behind (first (blocks_at laid t) m k)
   from_corner m k fit = first_behind (fails fs ring i) m k ∙ ap behind (first_same _ _ m k (λ l g h. same_block l (let f = fit (omega arith) in omega arith)))
 
   -- from the test that the note leaves
-  tells_on : 1 < q → told (behind (first (blocks_at rxs rys ring t a b c) (length ring - (q / 2 - 1)) (q / 2 - 1))) ≡ tested fs ring i q
+  tells_on : 1 < q → told (behind (first (blocks_at laid t) (length ring - (q / 2 - 1)) (q / 2 - 1))) ≡ tested fs ring i q
   unfolding tested
   tells_on h =
       let k = q / 2 - 1 in
@@ -113,16 +129,16 @@ module _ (fs : List Flat) (rxs rys : List Float) (ring : List ℕ) (order : InRi
       ap told (sym (ap (λ (m : ℕ). first (fails fs ring i) m (q / 2)) all ∙ ap (first (fails fs ring i) (length ring - k)) half ∙ from_corner (length ring - k) k (λ h. omega arith)))
 
   -- from the first, where the turn is above 0
-  tells_turned : q ≤ 1 → lt zerof (turn a b c) ≡ true → told (behind (first (blocks_at rxs rys ring t a b c) (length ring - 0) 0)) ≡ tested fs ring i q
+  tells_turned : q ≤ 1 → lt zerof (turn t.a t.b t.c) ≡ true → told (behind (first (blocks_at laid t) (length ring - 0) 0)) ≡ tested fs ring i q
   unfolding tested first fails
   tells_turned low h =
       let half : q / 2 ≡ 0 = omega arith in
       let all : suc (length ring) - q / 2 ≡ suc (length ring) = omega arith in
       let each : length ring - 0 ≡ length ring = omega arith in
-      let e : first (fails fs ring i) (suc (length ring)) 0 ≡ behind (first (blocks_at rxs rys ring t a b c) (length ring) 0) = rw (turns true h) (from_corner (length ring) 0 (λ h. omega arith)) in
+      let e : first (fails fs ring i) (suc (length ring)) 0 ≡ behind (first (blocks_at laid t) (length ring) 0) = rw (turns true h) (from_corner (length ring) 0 (λ h. omega arith)) in
       rw (all, each, half) (ap told (sym e))
 
-  tells_unturned : q ≤ 1 → lt zerof (turn a b c) ≡ false → No 1 ≡ tested fs ring i q
+  tells_unturned : q ≤ 1 → lt zerof (turn t.a t.b t.c) ≡ false → Some 1 ≡ tested fs ring i q
   unfolding tested first fails told failed_at
   tells_unturned low h =
       let half : q / 2 ≡ 0 = omega arith in
@@ -130,22 +146,22 @@ module _ (fs : List Flat) (rxs rys : List Float) (ring : List ℕ) (order : InRi
       rw (all, half, turns false h)
 
   -- where the note says that the turn is above 0, or it is
-  pub tells : (r : Float) (k : ℕ) → r ≡ turn a b c → k ≡ q / 2 - 1 → (ltb 1 q || lt zerof r) ≡ true → told (behind (first_at rxs rys ring t a b c k)) ≡ tested fs ring i q
+  pub tells : (r : Float) (k : ℕ) → r ≡ turn t.a t.b t.c → k ≡ q / 2 - 1 → (ltb 1 q || lt zerof r) ≡ true → told (behind (first_at laid t k)) ≡ tested fs ring i q
   tells r k er ek e = go (ltb 1 q) refl
     where
-      go : (s : Bool) → ltb 1 q ≡ s → told (behind (first_at rxs rys ring t a b c k)) ≡ tested fs ring i q
+      go : (s : Bool) → ltb 1 q ≡ s → told (behind (first_at laid t k)) ≡ tested fs ring i q
       go true h = rw ek (tells_on (ltb-true 1 q h))
       go false h =
           let low : q ≤ 1 = ltb-false 1 q h in
           let none : k ≡ 0 = omega arith in
-          let left : lt zerof (turn a b c) ≡ true = rw (h, er) at e in
+          let left : lt zerof (turn t.a t.b t.c) ≡ true = rw (h, er) at e in
           rw none (tells_turned low left)
 
-  pub tells_not : (r : Float) → r ≡ turn a b c → (ltb 1 q || lt zerof r) ≡ false → No 1 ≡ tested fs ring i q
+  pub tells_not : (r : Float) → r ≡ turn t.a t.b t.c → (ltb 1 q || lt zerof r) ≡ false → Some 1 ≡ tested fs ring i q
   tells_not r er e = go (ltb 1 q) refl
     where
-      go : (s : Bool) → ltb 1 q ≡ s → No 1 ≡ tested fs ring i q
+      go : (s : Bool) → ltb 1 q ≡ s → Some 1 ≡ tested fs ring i q
       go true h = absurd (let f : true ≡ false = rw h at e in let z : ◌≡◌ {A = ℕ} 0 1 = cc in omega arith)
       go false h =
-          let left : lt zerof (turn a b c) ≡ false = rw (h, er) at e in
+          let left : lt zerof (turn t.a t.b t.c) ≡ false = rw (h, er) at e in
           tells_unturned (ltb-false 1 q h) left

@@ -14,11 +14,7 @@ pub const UNTURNED: u32 = 1;
 pub fn forget_all(why: &mut [u32])
     ensures { why.new ≡ replicate (length why.old) 0 }
 {
-    let mut k = 0;
-    while k < why.len() {
-        why[k] = 0;
-        k += 1;
-    }
+    why.fill(0);
 }
 
 // The note of a place that passes the tests before that of the corner at place `at`, and fails this one. Where that is too far for a note, it says of
@@ -27,6 +23,7 @@ pub(crate) fn failed(at: RingPlace) -> u32
     ensures { result ≡ failed_at (at.0 + 1) }
 {
     let k = at.0;
+    // No `try_from`: of a greater place the sum may not fit a `usize` either.
     if k < 0x7FFF_FFFE {
         return (2 * k + 3) as u32;
     }
@@ -58,11 +55,8 @@ fn lowered(q: u32, low: u32) -> u32
 fn shift_all(why: &mut [u32], low: u32)
     ensures { why.new ≡ map (moved_by low) why.old }
 {
-    let mut k = 0;
-    while k < why.len() {
-        let q = why[k];
-        why[k] = lowered(lowered(q, low), low);
-        k += 1;
+    for q in why.iter_mut() {
+        *q = lowered(lowered(*q, low), low);
     }
 }
 
@@ -71,12 +65,9 @@ fn shift_before(why: &mut [u32], at: RingPlace, low: u32)
     requires { at.0 < length why.old }
     ensures { why.new ≡ moved_before low at.0 why.old }
 {
-    let mut k = at.0;
-    while 0 < k {
-        let q = why[k - 1];
-        why[k] = lowered(lowered(q, low), low);
-        k -= 1;
-    }
+    let i = at.0;
+    why.copy_within(..i, 1);
+    shift_all(&mut why[1..i + 1], low);
 }
 
 // The notes where the corner at a place is removed: those of its neighbours, whose triangles change, start anew, and the others move. There is none

@@ -23,11 +23,8 @@ module _ (xs ys : List Float) (i : ℕ) where
       get_d_list (λ j. flat (get_or xs j zerof) (get_or ys j zerof)) (length xs) 0 i flat0 h
       ∙ ap (λ (j : ℕ). flat (get_or xs j zerof) (get_or ys j zerof)) (zero-add i)
 
-  pub flat_both : i < length xs → i < length ys → flat (get_or xs i nan) (get_or ys i nan) ≡ corner (flats xs ys) i
-  flat_both h k = ap₂ flat (get_d_any xs i nan zerof h) (get_d_any ys i nan zerof k) ∙ sym (corner_in h)
-
-  pub flat_first : i < length xs → length ys ≤ i → flat (get_or xs i nan) zerof ≡ corner (flats xs ys) i
-  flat_first h k = ap₂ flat (get_d_any xs i nan zerof h) (sym (get_or-eq_default ys zerof k)) ∙ sym (corner_in h)
+  pub flat_in : (y : Float) → y ≡ get_or ys i zerof → i < length xs → flat (get_or xs i nan) y ≡ corner (flats xs ys) i
+  flat_in y e h = ap₂ flat (get_d_any xs i nan zerof h) e ∙ sym (corner_in h)
 
   pub flat_none : length xs ≤ i → flat0 ≡ corner (flats xs ys) i
   unfolding corner flats

@@ -6,12 +6,11 @@ use native.Mathlib.Numerals.{add-one}
 use native.Mathlib.Omega.{arith}
 use lib.ListN.{length, get_or, take, drop, drop_of_length-le}
 use lib.Seq.{take-take, take_at, drop_at, length-take-le, drop-cons}
+use Rattle.std.specs.Prelude.{Option, Some, None}
 use Rattle.lists.specs.Each.{Each}
 use Rattle.lists.specs.Loops.{fold, sum_of, over}
 use Rattle.lid.specs.declared.Flat.{Flat}
-use Rattle.lid.specs.declared.RingPlace.{RingPlace}
-use Rattle.lid.specs.declared.Bridged.{Bridged}
-use Rattle.lid.specs.declared.Bridged.TheVariants.{Unjoined, Joined}
+use Rattle.lid.specs.declared.Bridge.{Bridge}
 use Rattle.lid.specs.Log.{entry, Logged, logged}
 use Rattle.lid.specs.Rings.{turn_hole}
 use Rattle.lid.specs.Bridges.{bridge, splice, spliced, bridge_entry, join_all}
@@ -27,51 +26,51 @@ use Rattle.lists.proofs.Buffers.{over_is, over_front, over_behind, behind_later}
 -- ---- one hole
 
 -- a joint stands at a place of the ring and a place of the hole
-joint_in : (fs : List Flat) (ring hole : List ℕ) (t j : RingPlace) → 0 < length hole → bridge fs ring hole ≡ Joined t j → (t.0 < length ring) × (j.0 < length hole)
-joint_in fs ring hole t j h e = rw e at (bridge_in fs ring hole h)
+joint_in : (fs : List Flat) (ring hole : List ℕ) (b : Bridge) → 0 < length hole → bridge fs ring hole ≡ Some b → (b.place.0 < length ring) × (b.from.0 < length hole)
+joint_in fs ring hole b h e = rw e at (bridge_in fs ring hole h)
 
 module _ (fs : List Flat) (ring hole : List ℕ) (m : ℕ) (fit : (0 < length hole) × (m + length hole + 2 ≤ length ring) × (length ring < 2 ^ 32)) where
   pub front_fits : m ≤ length ring
   front_fits = omega (arith, fit.1)
 
   -- what `bridge` answers
-  module _ (b : Bridged) (e : b ≡ bridge fs (take m ring) hole) where
-    module _ (t j : RingPlace) (given : b ≡ Joined t j) where
-      joint : (t.0 < m) × (j.0 < length hole)
+  module _ (b : Option Bridge) (e : b ≡ bridge fs (take m ring) hole) where
+    module _ (to : Bridge) (given : b ≡ Some to) where
+      joint : (to.place.0 < m) × (to.from.0 < length hole)
       joint =
-          let p = joint_in fs (take m ring) hole t j fit.0 (sym e ∙ given) in
+          let p = joint_in fs (take m ring) hole to fit.0 (sym e ∙ given) in
           (omega (arith, p.0, length-take-le m ring front_fits), p.1)
 
-      pub joint_low : (t.0 < 2 ^ 32) × (j.0 < 2 ^ 32)
+      pub joint_low : (to.place.0 < 2 ^ 32) × (to.from.0 < 2 ^ 32)
       joint_low = (omega (arith, joint.0, front_fits, fit.2), omega (arith, joint.1, fit.1, fit.2))
 
-      pub joint_fits : (t.0 + length hole + 2 < length (take (m + length hole + 2) ring)) × (j.0 < length hole)
+      pub joint_fits : (to.place.0 + length hole + 2 < length (take (m + length hole + 2) ring)) × (to.from.0 < length hole)
       joint_fits = (omega (arith, joint.0, length-take-le (m + length hole + 2) ring fit.1), joint.1)
 
       pub join_at : (log log' : List ℕ) (g n : ℕ) (x : List ℕ)
-          → x ≡ splice (take (length (take (m + length hole + 2) ring) - (length hole + 2)) (take (m + length hole + 2) ring)) hole t.0 j.0
-          → length x ≡ length (take (m + length hole + 2) ring) → log' ≡ log_with log n (entry 4 g t.0 j.0 ∷ [])
+          → x ≡ splice (take (length (take (m + length hole + 2) ring) - (length hole + 2)) (take (m + length hole + 2) ring)) hole to.place.0 to.from.0
+          → length x ≡ length (take (m + length hole + 2) ring) → log' ≡ log_with log n (entry 4 g to.place.0 to.from.0 ∷ [])
           → Joins fs (take m ring) hole g ring (x ++ drop (m + length hole + 2) ring) log log' n (m + length hole + 2)
       unfolding spliced bridge_entry
       join_at log log' g n x put same wrote =
           let long : length (take (m + length hole + 2) ring) ≡ m + length hole + 2 = length-take-le (m + length hole + 2) ring fit.1 in
           let k : length (take (m + length hole + 2) ring) - (length hole + 2) ≡ m = omega (arith, long) in
-          let is : x ≡ splice (take m ring) hole t.0 j.0 =
+          let is : x ≡ splice (take m ring) hole to.place.0 to.from.0 =
           put
-          ∙ ap (λ (r : List ℕ). splice r hole t.0 j.0) (ap (λ (n : ℕ). take n (take (m + length hole + 2) ring)) k ∙ take-take m (m + length hole + 2) ring (omega arith)) in
-          let a : bridge fs (take m ring) hole ≡ Joined t j = sym e ∙ given in
-          let size : m + length hole + 2 ≡ length (splice (take m ring) hole t.0 j.0) = sym long ∙ sym same ∙ ap length is in
-          let front : take (m + length hole + 2) (x ++ drop (m + length hole + 2) ring) ≡ splice (take m ring) hole t.0 j.0 = take_at x (drop (m + length hole + 2) ring) _ (same ∙ long) ∙ is in
+          ∙ ap (λ (r : List ℕ). splice r hole to.place.0 to.from.0) (ap (λ (n : ℕ). take n (take (m + length hole + 2) ring)) k ∙ take-take m (m + length hole + 2) ring (omega arith)) in
+          let a : bridge fs (take m ring) hole ≡ Some to = sym e ∙ given in
+          let size : m + length hole + 2 ≡ length (splice (take m ring) hole to.place.0 to.from.0) = sym long ∙ sym same ∙ ap length is in
+          let front : take (m + length hole + 2) (x ++ drop (m + length hole + 2) ring) ≡ splice (take m ring) hole to.place.0 to.from.0 = take_at x (drop (m + length hole + 2) ring) _ (same ∙ long) ∙ is in
           record {
             joined = rw a (over_is (m + length hole + 2) _ ring _ size front (drop_at x (drop (m + length hole + 2) ring) _ (same ∙ long)));
             places = rw a size;
             written = rw a wrote;
           }
 
-    pub join_none : b ≡ Unjoined → (log log' : List ℕ) (g n : ℕ) → log' ≡ log_with log n (entry 5 g 0 0 ∷ []) → Joins fs (take m ring) hole g ring ring log log' n m
+    pub join_none : b ≡ None → (log log' : List ℕ) (g n : ℕ) → log' ≡ log_with log n (entry 5 g 0 0 ∷ []) → Joins fs (take m ring) hole g ring ring log log' n m
     unfolding spliced bridge_entry
     join_none given log log' g n wrote =
-        let a : bridge fs (take m ring) hole ≡ Unjoined = sym e ∙ given in
+        let a : bridge fs (take m ring) hole ≡ None = sym e ∙ given in
         let size : m ≡ length (take m ring) = sym (length-take-le m ring front_fits) in
         record { joined = rw a (over_is m ring ring (take m ring) size refl refl); places = rw a size; written = rw a wrote }
 
@@ -79,17 +78,17 @@ spliced_size : (fs : List Flat) (ring hole : List ℕ) → 0 < length hole → l
 unfolding spliced
 spliced_size fs ring hole h = go (bridge fs ring hole) (bridge_in fs ring hole h)
   where
-    go : (b : Bridged) → BridgeIn fs ring hole b → length (spliced ring hole b) ≤ length ring + length hole + 2
-    go Unjoined q = omega arith
-    go (Joined t j) q = omega (arith, splice_size ring hole t.0 j.0 q.0 q.1)
+    go : (b : Option Bridge) → BridgeIn fs ring hole b → length (spliced ring hole b) ≤ length ring + length hole + 2
+    go None q = omega arith
+    go (Some b) q = omega (arith, splice_size ring hole b.place.0 b.from.0 q.0 q.1)
 
 spliced_grows : (fs : List Flat) (ring hole : List ℕ) → 0 < length hole → length ring ≤ length (spliced ring hole (bridge fs ring hole))
 unfolding spliced
 spliced_grows fs ring hole h = go (bridge fs ring hole) (bridge_in fs ring hole h)
   where
-    go : (b : Bridged) → BridgeIn fs ring hole b → length ring ≤ length (spliced ring hole b)
-    go Unjoined q = omega arith
-    go (Joined t j) q = omega (arith, splice_size ring hole t.0 j.0 q.0 q.1)
+    go : (b : Option Bridge) → BridgeIn fs ring hole b → length ring ≤ length (spliced ring hole b)
+    go None q = omega arith
+    go (Some b) q = omega (arith, splice_size ring hole b.place.0 b.from.0 q.0 q.1)
 
 -- ---- the loop of `join_holes`
 

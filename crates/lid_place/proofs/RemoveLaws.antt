@@ -1,10 +1,11 @@
 -- An element taken out of a list by moving those before it up. Assumes nothing.
 use mathlib.Core.Path.{◌≡◌, refl, ap, ◌∙◌}
 use mathlib.Core.List.{List, [], ◌∷◌, ◌++◌}
-use Prim.Native.Nat.{ℕ, zero, suc, ◌-◌, ◌<◌, ◌≤◌}
+use Prim.Native.Nat.{ℕ, zero, suc, ◌+◌, ◌-◌, ◌<◌, ◌≤◌}
 use native.Mathlib.Nat.{le_of_suc-le-suc, not-suc-le-zero}
+use native.Mathlib.Numerals.{add-one}
 use native.Mathlib.Omega.{arith}
-use lib.ListN.{length, get_or, take, drop, set, length-set}
+use lib.ListN.{length, get_or, take, drop, set}
 use Rattle.lists.specs.Loops.{remove_at}
 
 -- an element moved up over the one to be taken out leaves the one before to be taken out
@@ -26,24 +27,19 @@ first_out (x ∷ xs) = refl
 
 -- the loop: the element at place j of the present list is left to be taken out, and the first place is as it was
 pub record Removing {A : Type 0} (old : List A) (i : ℕ) (new : List A) (j : ℕ) : Type 0 where
-  pub long : length new ≡ length old
-  pub near : j ≤ i
   pub left : remove_at j new ≡ remove_at i old
   pub first : take 1 new ≡ take 1 old
 
 module _ {A : Type 0} (old : List A) (i : ℕ) where
-  pub removing_start : Removing old i old i
-  removing_start = record { long = refl; near = omega arith; left = refl; first = refl }
-
-  pub removing_next : (d : A) (new : List A) (j : ℕ) → 0 < j → i < length old → Removing old i new j → Removing old i (set new j (get_or new (j - 1) d)) (j - 1)
-  removing_next d new zero h b r = absurd (not-suc-le-zero h)
-  removing_next d new (suc j) h b r =
+  pub removing_next : (new : List A) (j : ℕ) (v : A) → 0 < j → j < length new → v ≡ get_or new (j - 1) v → Removing old i new j
+      → Removing old i (set new (j - 1 + 1) v) (j - 1)
+  removing_next new zero v h b e r = absurd (not-suc-le-zero h)
+  removing_next new (suc j) v h b e r =
       let low : suc j - 1 ≡ j = omega arith in
-      rw low (record {
-        long = length-set new (suc j) (get_or new j d) ∙ r.long;
-        near = omega (arith, r.near);
-        left = remove_up d new j (omega (arith, r.near, r.long)) ∙ r.left;
-        first = first_kept new j (get_or new j d) ∙ r.first;
+      let same : v ≡ get_or new j v = rw low at e in
+      rw (low, add-one) (record {
+        left = ap (λ (w : A). remove_at j (set new (suc j) w)) same ∙ remove_up v new j b ∙ r.left;
+        first = first_kept new j v ∙ r.first;
       })
 
   pub removing_end : (new : List A) (j : ℕ) → j ≤ 0 → Removing old i new j → new ≡ take 1 old ++ remove_at i old

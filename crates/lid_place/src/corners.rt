@@ -18,10 +18,7 @@ fn number_in(ring: &[u32], at: RingPlace) -> CornerNumber
 pub fn number_at(ring: &[u32], at: RingPlace) -> CornerNumber
     ensures { result ≡ corner_of (get_or ring.now at.0 0) }
 {
-    if at.0 < ring.len() {
-        return number_in(ring, at);
-    }
-    CornerNumber(0)
+    CornerNumber(ring.get(at.0).copied().unwrap_or(0))
 }
 
 // The corners before, at and after a place.

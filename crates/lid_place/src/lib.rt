@@ -33,26 +33,13 @@ pub fn place_after(n: usize, at: RingPlace) -> RingPlace
     RingPlace(i + 1)
 }
 
-// Takes the corner at a place out of a ring: those before it move up, and the first place keeps its number.
-pub fn remove(ring: &mut [u32], at: RingPlace)
+// Takes what stands at a place out of a ring, a corner or its coordinate: what stands before it moves up, and the first place keeps its own.
+#[tactic(auto, using(crate::proofs::RemoveLaws::removing_next, crate::proofs::RemoveLaws::removing_end))]
+pub fn remove<T: Copy>(ring: &mut [T], at: RingPlace)
     requires { at.0 < length ring.old }
     ensures { ring.new ≡ take 1 ring.old ++ remove_at at.0 ring.old }
 {
-    let mut j = at.0;
-    while 0 < j {
-        ring[j] = ring[j - 1];
-        j -= 1;
-    }
-}
-
-// The same for a coordinate of each place.
-pub fn remove_coordinate(xs: &mut [f32], at: RingPlace)
-    requires { at.0 < length xs.old }
-    ensures { xs.new ≡ take 1 xs.old ++ remove_at at.0 xs.old }
-{
-    let mut j = at.0;
-    while 0 < j {
-        xs[j] = xs[j - 1];
-        j -= 1;
+    for j in (0..at.0).rev() {
+        ring[j + 1] = ring[j];
     }
 }

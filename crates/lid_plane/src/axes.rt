@@ -12,7 +12,7 @@ use lid::Flat;
 pub fn about_from(area: Vector, lid: Vector) -> Vector
     ensures { result ≡ about_from area lid }
 {
-    lid.scale(float_sign::signum(area.dot(lid)))
+    lid * float_sign::signum(area.dot(lid))
 }
 
 // The first axis of the lid's plane.
@@ -20,7 +20,7 @@ pub fn first_axis(lid: Vector) -> Vector
     ensures { result ≡ first_axis lid }
 {
     let e = axis_across(lid);
-    e.sub(lid.scale(e.dot(lid))).normalize_or(Vector::ZERO)
+    (e - lid * e.dot(lid)).normalize_or(Vector::ZERO)
 }
 
 // The axis of the world that lies far from the lid's normal.
@@ -28,24 +28,16 @@ fn axis_across(lid: Vector) -> Vector
     ensures { result ≡ axis_across lid }
 {
     if float_sign::abs(lid.z) > 0.5 {
-        return Vector {
-            x: 1.0,
-            y: 0.0,
-            z: 0.0,
-        };
+        return Vector::X;
     }
-    Vector {
-        x: 0.0,
-        y: 0.0,
-        z: 1.0,
-    }
+    Vector::Z
 }
 
 // A top on the lid's plane, by its coordinates from the first top along both axes.
 pub fn flat_corner(first: Point, e1: Vector, e2: Vector, p: Point) -> Flat
     ensures { result ≡ flat_on first e1 e2 p }
 {
-    let d = p.sub(first);
+    let d = p - first;
     Flat {
         x: d.dot(e1),
         y: d.dot(e2),

@@ -12,14 +12,14 @@ use object::Corner;
 pub fn area_normal_step(first: Point, p: Point, q: Point, sum: Vector) -> Vector
     ensures { result ≡ area_normal_at first p q sum }
 {
-    sum.add(p.sub(first).cross(q.sub(first)))
+    sum + (p - first).cross(q - first)
 }
 
 // The rises from base to top so far, with one more corner's.
 pub fn rise_step(sum: Vector, c: Corner) -> Vector
     ensures { result ≡ rise_step sum c }
 {
-    sum.add(c.top.sub(c.base))
+    sum + (c.top - c.base)
 }
 
 // The lid's normal, from the vector area of the tops and the sum of the rises: away from the bases, or
@@ -27,18 +27,13 @@ pub fn rise_step(sum: Vector, c: Corner) -> Vector
 pub fn lid_normal_from(area: Vector, rise: Vector) -> Vector
     ensures { result ≡ lid_normal_from area rise }
 {
-    let up = Vector {
-        x: 0.0,
-        y: 0.0,
-        z: 1.0,
-    };
-    let n = area.normalize_or(up);
+    let n = area.normalize_or(Vector::Z);
     let away = n.dot(rise);
     if float_sign::abs(away) > MIN_AREA {
-        return n.scale(float_sign::signum(away));
+        return n * float_sign::signum(away);
     }
     if n.z < 0.0 {
-        return n.neg();
+        return -n;
     }
     n
 }

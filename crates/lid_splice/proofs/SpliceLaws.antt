@@ -1,136 +1,111 @@
--- Corners inserted into a ring in place, and a hole spliced in. Assumes nothing.
+-- A number inserted into a list in place, and a hole spliced into a ring: what the library's moves leave. Assumes nothing.
 use mathlib.Core.Path.{◌≡◌, refl, sym, ap, ap₂, ◌∙◌}
-use mathlib.Core.Bool.{Bool, true, false}
 use mathlib.Core.List.{List, [], ◌∷◌, ◌++◌, append_assoc, append-nil}
-use Prim.Native.Nat.{ℕ, zero, suc, ◌+◌, ◌-◌, ◌%◌, ◌<◌, ◌≤◌}
-use native.Mathlib.Nat.{le_of_suc-le-suc, not-suc-le-zero, le_of_lt, mod-eq_of_lt, mod-eq-sub-mod}
+use Prim.Native.Nat.{ℕ, ◌+◌, ◌-◌, ◌<◌, ◌≤◌}
 use native.Mathlib.Numerals.{add-one}
 use native.Mathlib.Omega.{arith}
-use lib.Dec.{ltb}
-use lib.ListN.{length, get_or, take, drop, set, drop_of_length-le, length-append, length-drop, length-take, get_or-append}
-use lib.Seq.{take-set-lt, get_or-take, get_or-drop, get_or-append-add, set_split, set_at, take_all, take-length, take-take, take-append-le, take_at, drop_at, take-suc, drop-cons, append_snoc, length-take-le, paste, paste-suc}
-use borrow.Author.Tests.{ltb-true, ltb-false}
+use lib.ListN.{length, get_or, take, drop, set, drop_of_length-le, length-append, length-drop}
+use lib.Seq.{get_or-take, set_at, take-take, take_at, drop_at, drop-drop, drop-cons, length-take-le}
+use borrow.Rule.Slice.PartMut.{mid_of, put_mid}
+use Rattle.std.proofs.lemmas.List.{take_rest}
+use Rattle.std.proofs.lemmas.Slice.{between_is}
 use Rattle.lid.specs.Bridges.{splice}
-use Rattle.lid.specs.Contract.Steps.{insert_at}
-
-insert_suc : (l : List ℕ) (j c : ℕ) → j < length l → insert_at (suc j) (get_or l j 0) (set l j c) ≡ insert_at j c l
-unfolding insert_at
-insert_suc [] j c h = absurd (not-suc-le-zero h)
-insert_suc (x ∷ xs) zero c h = refl
-insert_suc (x ∷ xs) (suc j) c h = ap (λ (r : List ℕ). x ∷ r) (insert_suc xs j c (le_of_suc-le-suc h))
-
--- the carried corner takes a place, and that place's corner is carried on
-pub insert_step : (l : List ℕ) (n j c : ℕ) → j < n → n < length l → insert_at (j + 1) (get_or l j 0) (take n (set l j c)) ≡ insert_at j c (take n l)
-insert_step l n j c h k =
-    rw (take-set-lt n l j c h, add-one)
-    (ap (λ (v : ℕ). insert_at (suc j) v (set (take n l) j c)) (sym (get_or-take n l j 0 h))
-    ∙ insert_suc (take n l) j c (omega (arith, length-take-le n l (le_of_lt k))))
-
--- the last corner takes the last place
-pub insert_last : (l : List ℕ) (n c : ℕ) → length l ≡ n + 1 → set l n c ≡ insert_at n c (take n l)
-unfolding insert_at
-insert_last l n c e =
-    let long : length (take n l) ≡ n = length-take-le n l (omega arith) in
-    set_split l n c (omega arith)
-    ∙ ap₂ (λ (a b : List ℕ). a ++ c ∷ b) (sym (take_all n (take n l) (omega arith))) (drop_of_length-le l {i = suc n} (omega arith) ∙ sym (drop_of_length-le (take n l) {i = n} (omega arith)))
-
--- ---- a hole spliced in: room is made for it, and its corners are written, from its place b round to b again
+use Rattle.lid.specs.Contract.Steps.{insert_at, but_last}
 
 -- a front that is lent comes back as x
 pub front_back : (l x : List ℕ) (e n : ℕ) → e ≡ n → e ≤ length l → length x ≡ length (take e l) → take n (x ++ drop e l) ≡ x
 front_back l x e n q h k = take_at x (drop e l) n (k ∙ length-take-le e l h ∙ q)
 
-module _ (l₀ : List ℕ) (gap : ℕ) where
-  pub room_start : l₀ ≡ take (length l₀) l₀ ++ drop (length l₀ - gap) (take (length l₀ - gap) l₀)
-  room_start =
-      sym (ap₂ ◌++◌ (take-length l₀) (drop_of_length-le (take (length l₀ - gap) l₀) {i = length l₀ - gap} (omega (arith, length-take (length l₀ - gap) l₀))) ∙ append-nil l₀)
+-- ---- the places from a on are turned by `gap` places: behind the first `gap` stands what stood there, but the last `gap`
 
-  -- one more corner is moved up, to place k - 1
-  pub room_step : (l : List ℕ) (k : ℕ) → 0 < gap → gap < k → k ≤ length l₀ → l ≡ take k l₀ ++ drop (k - gap) (take (length l₀ - gap) l₀)
-      → set l (k - 1) (get_or l (k - 1 - gap) 0) ≡ take (k - 1) l₀ ++ drop (k - 1 - gap) (take (length l₀ - gap) l₀)
-  room_step l k some low fits inv =
-      let m : ℕ = k - 1 in
-      let r : List ℕ = take (length l₀ - gap) l₀ in
-      let size : length (take m l₀) ≡ m = length-take-le m l₀ (omega arith) in
-      let next : suc m ≡ k = omega arith in
-      let up : suc (m - gap) ≡ k - gap = omega arith in
-      let one : take k l₀ ≡ take m l₀ ++ (get_or l₀ m 0 ∷ []) = ap (λ (i : ℕ). take i l₀) (sym next) ∙ take-suc l₀ m 0 (omega arith) in
-      let whole : l ≡ take m l₀ ++ get_or l₀ m 0 ∷ drop (k - gap) r = inv ∙ ap (λ (p : List ℕ). p ++ drop (k - gap) r) one ∙ append_snoc (take m l₀) (get_or l₀ m 0) (drop (k - gap) r) in
-      let v : get_or l (m - gap) 0 ≡ get_or r (m - gap) 0 =
-      ap (λ (p : List ℕ). get_or p (m - gap) 0) whole
-      ∙ get_or-append (take m l₀) (get_or l₀ m 0 ∷ drop (k - gap) r) 0 (m - gap) (omega arith)
-      ∙ get_or-take m l₀ (m - gap) 0 (omega arith)
-      ∙ sym (get_or-take (length l₀ - gap) l₀ (m - gap) 0 (omega arith)) in
-      ap₂ (λ (p : List ℕ) (x : ℕ). set p m x) whole v
-      ∙ set_at (take m l₀) (get_or l₀ m 0) (drop (k - gap) r) (get_or r (m - gap) 0) m size
-      ∙ ap (λ (p : List ℕ). take m l₀ ++ p)
-      (ap (λ (i : ℕ). get_or r (m - gap) 0 ∷ drop i r) (sym up) ∙ sym (drop-cons r (m - gap) 0 (omega (arith, length-take-le (length l₀ - gap) l₀ (omega arith)))))
+module _ (l : List ℕ) (a gap : ℕ) (fits : a + gap ≤ length l) (r : List ℕ)
+    (turns : r ≡ drop (length (mid_of a (length l - a) l) - gap) (mid_of a (length l - a) l) ++ take (length (mid_of a (length l - a) l) - gap) (mid_of a (length l - a) l)) where
+  part : List ℕ
+  part = drop a l
 
-  pub room_end : (l : List ℕ) (k t : ℕ) → k ≡ t + gap → l ≡ take k l₀ ++ drop (k - gap) (take (length l₀ - gap) l₀) → l ≡ take (t + gap) l₀ ++ drop t (take (length l₀ - gap) l₀)
-  room_end l k t e inv =
-      let low : k - gap ≡ t = omega arith in
-      inv ∙ ap₂ (λ (i j : ℕ). take i l₀ ++ drop j (take (length l₀ - gap) l₀)) e low
+  size : length part ≡ length l - a
+  unfolding part
+  size = length-drop a l
 
--- the hole's corners in the order in which they are written
-unfoldable pub way : List ℕ → ℕ → List ℕ
-way hole b = drop b hole ++ take (b + 1) hole
+  plain : r ≡ drop (length l - a - gap) part ++ take (length l - a - gap) part
+  unfolding part
+  plain = turns ∙ rw (take_rest l a, size) refl
 
-module _ (hole : List ℕ) (b : ℕ) (low : b < length hole) where
-  way_size : length (way hole b) ≡ length hole + 1
-  unfolding way
-  way_size = omega (arith, length-append (drop b hole) (take (b + 1) hole), length-drop b hole, length-take-le (b + 1) hole (omega arith))
+  pub turned_size : length r ≡ length l - a
+  turned_size =
+      ap length plain
+      ∙ length-append (drop (length l - a - gap) part) (take (length l - a - gap) part)
+      ∙ omega (arith, size, length-drop (length l - a - gap) part, length-take-le (length l - a - gap) part (omega (arith, size)))
 
-  way_at : (k : ℕ) → k ≤ length hole → get_or (way hole b) k 0 ≡ get_or hole ((b + k) % length hole) 0
-  unfolding way
-  way_at k h = go (ltb k (length hole - b)) refl
+  pub turned_rest : drop gap r ≡ drop a (take (length l - gap) l)
+  unfolding part
+  turned_rest =
+      let n : ℕ = length l - a - gap in
+      let same : n ≡ length l - gap - a = omega arith in
+      ap (drop gap) plain
+      ∙ drop_at (drop n part) (take n part) gap (omega (arith, size, length-drop n part))
+      ∙ ap (λ (k : ℕ). take k part) same
+      ∙ between_is l a (length l - gap)
+
+-- what lies behind a rest that is lent
+nothing_behind : (l : List ℕ) (a : ℕ) → a ≤ length l → drop (length l - a) (drop a l) ≡ []
+nothing_behind l a h = drop-drop (length l - a) a l ∙ drop_of_length-le l {i = a + (length l - a)} (omega arith)
+
+-- a number put at place i, where the rest was turned by one place
+module _ (l : List ℕ) (i v : ℕ) (fits : i < length l) (r : List ℕ)
+    (turns : r ≡ drop (length (mid_of i (length l - i) l) - 1) (mid_of i (length l - i) l) ++ take (length (mid_of i (length l - i) l) - 1) (mid_of i (length l - i) l)) where
+  pub inserted : set (put_mid i (length l - i) l r) i v ≡ insert_at i v (but_last 1 l)
+  unfolding insert_at
+  inserted =
+      let room : i + 1 ≤ length l = omega arith in
+      let some : 0 < length r = omega (arith, turned_size l i 1 room r turns) in
+      let rest : r ++ drop (length l - i) (drop i l) ≡ get_or r 0 0 ∷ drop 1 r =
+      ap₂ ◌++◌ (drop-cons r 0 0 some) (nothing_behind l i (omega arith)) ∙ append-nil (get_or r 0 0 ∷ drop 1 r) in
+      ap (λ (q : List ℕ). set (take i l ++ q) i v) rest
+      ∙ set_at (take i l) (get_or r 0 0) (drop 1 r) v i (length-take-le i l (omega arith))
+      ∙ ap₂ (λ (p q : List ℕ). p ++ v ∷ q) (sym (take-take i (length l - 1) l (omega arith))) (turned_rest l i 1 room r turns)
+
+-- two lists and a number written to the front of a list, one behind the other
+room_written : (r front behind : List ℕ) (m n k v : ℕ) → length front ≡ m → length behind ≡ n → k ≡ m + n → k < length r
+    → set (put_mid m n (front ++ drop m r) behind) k v ≡ front ++ behind ++ v ∷ drop (k + 1) r
+room_written r front behind m n k v e d s fits =
+    let past : drop n (drop m (front ++ drop m r)) ≡ get_or r k 0 ∷ drop (k + 1) r =
+    ap (drop n) (drop_at front (drop m r) m e)
+    ∙ drop-drop n m r
+    ∙ ap (λ (i : ℕ). drop i r) (sym s)
+    ∙ drop-cons r k 0 fits
+    ∙ ap (λ (i : ℕ). get_or r k 0 ∷ drop i r) (sym (add-one k)) in
+    ap₂ (λ (p q : List ℕ). set (p ++ (behind ++ q)) k v) (take_at front (drop m r) m e) past
+    ∙ ap (λ (q : List ℕ). set q k v) (sym (append_assoc front behind (get_or r k 0 ∷ drop (k + 1) r)))
+    ∙ set_at (front ++ behind) (get_or r k 0) (drop (k + 1) r) v k (length-append front behind ∙ omega arith)
+
+-- the hole written behind place t, where the rest was turned by its places and two more
+module _ (l hole : List ℕ) (t b : ℕ) (room : t + length hole + 2 < length l) (low : b < length hole) (r : List ℕ)
+    (turns : r ≡ drop (length (mid_of (t + 1) (length l - (t + 1)) l) - (length hole + 2)) (mid_of (t + 1) (length l - (t + 1)) l)
+    ++ take (length (mid_of (t + 1) (length l - (t + 1)) l) - (length hole + 2)) (mid_of (t + 1) (length l - (t + 1)) l))
+    (front behind : List ℕ) (first : front ≡ drop b hole) (last : behind ≡ take (b + 1) hole) where
+  pub spliced_in : put_mid (t + 1) (length l - (t + 1)) l
+      (set (put_mid (length hole - b) (length hole + 1 - (length hole - b)) (front ++ drop (length hole - b) r) behind) (length hole + 1) (get_or l t 0))
+      ≡ splice (but_last (length hole + 2) l) hole t b
+  unfolding splice
+  spliced_in =
+      let gap : ℕ = length hole + 2 in
+      let fits : t + 1 + gap ≤ length l = omega arith in
+      let up : length hole + 1 + 1 ≡ gap = omega arith in
+      let written =
+      room_written r front behind (length hole - b) (length hole + 1 - (length hole - b)) (length hole + 1) (get_or l t 0) (ap length first ∙ length-drop b hole)
+      (ap length last ∙ length-take-le (b + 1) hole (omega arith) ∙ omega arith) (omega arith) (omega (arith, turned_size l (t + 1) gap fits r turns)) in
+      ap₂ (λ (p q : List ℕ). take (t + 1) l ++ (p ++ q)) written (nothing_behind l (t + 1) (omega arith))
+      ∙ ap (λ (q : List ℕ). take (t + 1) l ++ q) (append-nil _)
+      ∙ all front behind (take (t + 1) l) (get_or l t 0) (drop (length hole + 1 + 1) r) first last
+      (sym (take-take (t + 1) (length l - gap) l (omega arith)))
+      (sym (get_or-take (length l - gap) l t 0 (omega arith)))
+      (ap (λ (i : ℕ). drop i r) up ∙ turned_rest l (t + 1) gap fits r turns)
+      ∙ simp append_assoc
     where
-      size : length (drop b hole) ≡ length hole - b
-      size = length-drop b hole
+      few : List ℕ
+      few = take (length l - (length hole + 2)) l
 
-      go : (first : Bool) → ltb k (length hole - b) ≡ first → get_or (drop b hole ++ take (b + 1) hole) k 0 ≡ get_or hole ((b + k) % length hole) 0
-      go true e =
-          let in-first : k < length hole - b = ltb-true _ _ e in
-          get_or-append (drop b hole) (take (b + 1) hole) 0 k (omega (arith, size))
-          ∙ get_or-drop b hole k 0
-          ∙ ap (λ (i : ℕ). get_or hole i 0) (sym (mod-eq_of_lt (omega (arith, in-first))))
-      go false e =
-          let past : length hole - b ≤ k = ltb-false _ _ e in
-          let i : ℕ = b + k - length hole in
-          let at : length (drop b hole) + i ≡ k = omega (arith, size) in
-          ap (λ (n : ℕ). get_or (drop b hole ++ take (b + 1) hole) n 0) (sym at)
-          ∙ get_or-append-add (drop b hole) (take (b + 1) hole) i 0
-          ∙ get_or-take (b + 1) hole i 0 (omega arith)
-          ∙ ap (λ (n : ℕ). get_or hole n 0) (sym (mod-eq-sub-mod (omega arith) ∙ mod-eq_of_lt (omega arith)))
-
-  -- one more corner is written
-  pub write_next : (l₁ l : List ℕ) (t k : ℕ) → t + 1 + k < length l₁ → k ≤ length hole → l ≡ paste l₁ (t + 1) (way hole b) k
-      → set l (t + 1 + k) (get_or hole ((b + k) % length hole) 0) ≡ paste l₁ (t + 1) (way hole b) (k + 1)
-  write_next l₁ l t k fits h inv =
-      ap₂ (λ (p : List ℕ) (x : ℕ). set p (t + 1 + k) x) inv (sym (way_at k h))
-      ∙ paste-suc l₁ (t + 1) (way hole b) k 0 fits (omega (arith, way_size))
-      ∙ ap (paste l₁ (t + 1) (way hole b)) (sym (add-one k))
-
-  module _ (l₀ l₁ : List ℕ) (t : ℕ) (fits : t + length hole + 2 < length l₀)
-      (moved : l₁ ≡ take (t + (length hole + 2)) l₀ ++ drop t (take (length l₀ - (length hole + 2)) l₀)) where
-    head_size : length (take (t + (length hole + 2)) l₀) ≡ t + (length hole + 2)
-    head_size = length-take-le (t + (length hole + 2)) l₀ (omega arith)
-
-    pub splice_end : (l : List ℕ) (k : ℕ) → k ≡ length hole + 1 → l ≡ paste l₁ (t + 1) (way hole b) k → l ≡ splice (take (length l₀ - (length hole + 2)) l₀) hole t b
-    unfolding splice way
-    splice_end l k done inv =
-        let r : List ℕ = take (length l₀ - (length hole + 2)) l₀ in
-        let behind : t + 1 + k ≡ t + (length hole + 2) = omega arith in
-        let front : take (t + 1) l₁ ≡ take (t + 1) r =
-        ap (take (t + 1)) moved
-        ∙ take-append-le (t + 1) (take (t + (length hole + 2)) l₀) (drop t r) (omega (arith, head_size))
-        ∙ take-take (t + 1) (t + (length hole + 2)) l₀ (omega arith)
-        ∙ sym (take-take (t + 1) (length l₀ - (length hole + 2)) l₀ (omega arith)) in
-        let back : drop (t + 1 + k) l₁ ≡ get_or r t 0 ∷ drop (t + 1) r =
-        ap₂ drop behind moved
-        ∙ drop_at (take (t + (length hole + 2)) l₀) (drop t r) (t + (length hole + 2)) head_size
-        ∙ drop-cons r t 0 (omega (arith, length-take-le (length l₀ - (length hole + 2)) l₀ (omega arith)))
-        ∙ ap (λ (i : ℕ). get_or r t 0 ∷ drop i r) (sym (add-one t)) in
-        let all : take k (way hole b) ≡ way hole b = take_all k (way hole b) (omega (arith, way_size)) in
-        inv
-        ∙ ap₂ ◌++◌ (ap₂ ◌++◌ front all) back
-        ∙ simp append_assoc
+      all : (f s head : List ℕ) (v : ℕ) (rest : List ℕ) → f ≡ drop b hole → s ≡ take (b + 1) hole → head ≡ take (t + 1) few → v ≡ get_or few t 0 → rest ≡ drop (t + 1) few
+          → head ++ (f ++ s ++ v ∷ rest) ≡ take (t + 1) few ++ (drop b hole ++ take (b + 1) hole ++ (get_or few t 0 ∷ drop (t + 1) few))
+      all f s head v rest a b c d e = cc

@@ -7,8 +7,7 @@ use mathlib.Core.List.{List, [], ◌∷◌}
 use native.Mathlib.Omega.{arith}
 use native.Mathlib.Numerals.{add-one}
 use native.Mathlib.Nat.{sub-zero, zero-add}
-use Rattle.lists.specs.declared.Found.{Found}
-use Rattle.lists.specs.declared.Found.TheVariants.{At, Nowhere}
+use Rattle.std.specs.Prelude.{Option, Some, None}
 use Rattle.lists.specs.Each.{Each}
 use Rattle.lists.specs.Loops.{loop, first, list, fold}
 
@@ -37,26 +36,26 @@ pub loop_end : {S : Type 0} (f : ℕ → S → S) (n i : ℕ) (s t : S) → n �
 unfolding loop
 loop_end f n i s t h p = sym (ap (λ (m : ℕ). loop f m i s) (nothing_left h)) ∙ p
 
-first_hit_lem : (p : ℕ → Bool) (n k : ℕ) → k < n → p k ≡ true → first p (n - k) k ≡ At k
+first_hit_lem : (p : ℕ → Bool) (n k : ℕ) → k < n → p k ≡ true → first p (n - k) k ≡ Some k
 unfolding first
-first_hit_lem p n k h t = ap (λ (m : ℕ). first p m k) (one_less h) ∙ ap (λ (b : Bool). cond b (At k) (first p (n - suc k) (suc k))) t
+first_hit_lem p n k h t = ap (λ (m : ℕ). first p m k) (one_less h) ∙ ap (λ (b : Bool). cond b (Some k) (first p (n - suc k) (suc k))) t
 
 first_miss : (p : ℕ → Bool) (n k : ℕ) → k < n → p k ≡ false → first p (n - k) k ≡ first p (n - suc k) (suc k)
 unfolding first
-first_miss p n k h t = ap (λ (m : ℕ). first p m k) (one_less h) ∙ ap (λ (b : Bool). cond b (At k) (first p (n - suc k) (suc k))) t
+first_miss p n k h t = ap (λ (m : ℕ). first p m k) (one_less h) ∙ ap (λ (b : Bool). cond b (Some k) (first p (n - suc k) (suc k))) t
 
 -- the facts that a search's invariant `first p (n - i) i ≡ t` asks for: at the start, where it is found, after one turn of the loop, and at the end
 pub first_start : (p : ℕ → Bool) (n : ℕ) → first p (n - 0) 0 ≡ first p n 0
 first_start p n = ap (λ (m : ℕ). first p m 0) (sub-zero n)
 
-pub first_found : (p : ℕ → Bool) (n i : ℕ) (t : Found) → i < n → p i ≡ true → first p (n - i) i ≡ t → At i ≡ t
+pub first_found : (p : ℕ → Bool) (n i : ℕ) (t : Option ℕ) → i < n → p i ≡ true → first p (n - i) i ≡ t → Some i ≡ t
 first_found p n i t h e q = sym (first_hit_lem p n i h e) ∙ q
 
-pub first_next : (p : ℕ → Bool) (n i : ℕ) (t : Found) → i < n → p i ≡ false → first p (n - i) i ≡ t → first p (n - (i + 1)) (i + 1) ≡ t
+pub first_next : (p : ℕ → Bool) (n i : ℕ) (t : Option ℕ) → i < n → p i ≡ false → first p (n - i) i ≡ t → first p (n - (i + 1)) (i + 1) ≡ t
 first_next p n i t h e q = ap (λ (k : ℕ). first p (n - k) k) (add-one i) ∙ sym (first_miss p n i h e) ∙ q
 
 -- after several turns at a time, none of which finds: from i on, m places are skipped
-pub first_skip : (p : ℕ → Bool) (n m i : ℕ) (t : Found) → i + m ≤ n → ((j : ℕ) → j < m → p (i + j) ≡ false) → first p (n - i) i ≡ t → first p (n - (i + m)) (i + m) ≡ t
+pub first_skip : (p : ℕ → Bool) (n m i : ℕ) (t : Option ℕ) → i + m ≤ n → ((j : ℕ) → j < m → p (i + j) ≡ false) → first p (n - i) i ≡ t → first p (n - (i + m)) (i + m) ≡ t
 first_skip p n zero i t b h q = subst (λ (k : ℕ). first p (n - k) k ≡ t) (e i) q
   where
     e : (i : ℕ) → i ≡ i + zero
@@ -67,7 +66,7 @@ first_skip p n (suc m) i t b h q =
     e : (i m : ℕ) → i + m + 1 ≡ i + suc m
     e i m = omega arith
 
-pub first_end : (p : ℕ → Bool) (n i : ℕ) (t : Found) → n ≤ i → first p (n - i) i ≡ t → Nowhere ≡ t
+pub first_end : (p : ℕ → Bool) (n i : ℕ) (t : Option ℕ) → n ≤ i → first p (n - i) i ≡ t → None ≡ t
 unfolding first
 first_end p n i t h q = sym (ap (λ (m : ℕ). first p m i) (nothing_left h)) ∙ q
 
@@ -123,9 +122,9 @@ pub loop-keeps₀ : {S : Type 0} (P : S → Type 0) (f : ℕ → S → S) (n : �
 loop-keeps₀ P f n s h p = loop_keeps P f n 0 s (λ i b. h i (omega arith)) p
 
 -- what was found is below m
-abbrev pub Below : ℕ → Found → Type 0
-Below m (At i) = i < m
-Below m Nowhere = Unit {0}
+abbrev pub Below : ℕ → Option ℕ → Type 0
+Below m (Some i) = i < m
+Below m None = Unit {0}
 
 first_in : (p : ℕ → Bool) (n k : ℕ) → Below (k + n) (first p n k)
 unfolding first

@@ -1,19 +1,17 @@
 -- Loops as functions. A loop of the program that runs k from i up to n is `loop (n - i) i`; its invariant says that the loop continued from the
 -- present state gives what the loop from the start gives.
 -- A recursive call that may not be needed is bound by `let`, since antt computes an argument before the call.
-use Rattle.std.specs.Prelude.{ℕ, zero, suc, ◌+◌, ◌-◌, ◌%◌, Bool, true, false, cond, ◌&&◌, ◌||◌, List, [], ◌∷◌, ◌++◌, length, drop}
-use Rattle.lists.specs.declared.Found.{Found}
-use Rattle.lists.specs.declared.Found.TheVariants.{At, Nowhere}
+use Rattle.std.specs.Prelude.{ℕ, zero, suc, ◌+◌, ◌-◌, ◌%◌, Bool, true, false, cond, ◌&&◌, ◌||◌, List, [], ◌∷◌, ◌++◌, length, drop, Option, Some, None}
 
 -- n steps, at k, k + 1, ..
 unfoldable pub loop : {S : Type 0} → (ℕ → S → S) → ℕ → ℕ → S → S
 loop f zero k s = s
 loop f (suc n) k s = loop f n (suc k) (f k s)
 
--- the first of the n numbers k, k + 1, .. that passes the test (`Found` of src/lib.rt: At it, or Nowhere)
-unfoldable pub first : (ℕ → Bool) → ℕ → ℕ → Found
-first p zero k = Nowhere
-first p (suc n) k = let later = first p n (suc k) in cond (p k) (At k) later
+-- the first of the n numbers k, k + 1, .. that passes the test, as `find` of a range gives it
+unfoldable pub first : (ℕ → Bool) → ℕ → ℕ → Option ℕ
+first p zero k = None
+first p (suc n) k = let later = first p n (suc k) in cond (p k) (Some k) later
 
 -- every element passes the test; some element does
 unfoldable pub every : {A : Type 0} → (A → Bool) → List A → Bool

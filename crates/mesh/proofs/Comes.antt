@@ -19,7 +19,7 @@ use Rattle.face.proofs.Counts.{faces_account}
 use Rattle.face.proofs.Draws.{vertices_most}
 use Rattle.shape.specs.Shapes.{faces_of, log_of}
 use Rattle.shape.proofs.Sizes.{Sized, body_sized}
-use Rattle.mesh.specs.Mesh.{Span, kept_by, piece_of, span_of, add_piece, mesh_from, logs_of}
+use Rattle.mesh.specs.Mesh.{kept_by, piece_of, span_of, add_piece, mesh_from, logs_of}
 use Rattle.mesh.specs.Contract.PerBuffer.{FitCounts}
 use Rattle.mesh.specs.Operations.{output, counts_of}
 use Rattle.mesh.proofs.MeshSizes.{output_counts}

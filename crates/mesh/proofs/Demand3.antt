@@ -20,10 +20,9 @@ use Rattle.lid.specs.Log.{Entry}
 use Rattle.validate.specs.Validate.{validate_at, validate}
 use Rattle.mesh.specs.Demand3.{AccountHolds, AreasFollow, SpansFollow, EndToEnd, LongEnough, prefixes, Demand3Of, Demand3}
 use Rattle.mesh.specs.Mesh.{Span, Account, accounts_of, logs_of, mesh_of}
-use Rattle.mesh.specs.declared.Room.{Room}
-use Rattle.mesh.specs.declared.Room.TheVariants.{Enough}
+use Rattle.std.specs.Prelude.{Ok}
 use Rattle.mesh.specs.PerBuffer.{Buffers}
-use Rattle.mesh.specs.Operations.{counts_of, output, done, too_short, measure_scene, measure, build_output, build_scene, build}
+use Rattle.mesh.specs.Operations.{counts_of, output, done, too_short, measure_scene, measure, build_output, build_scene, build, Room}
 use Rattle.coords.proofs.Buffers.{vertices_size, vertices_back}
 use Rattle.coords.proofs.Turned.{Above, min_above}
 use Rattle.object.proofs.Near.{NearShape}
@@ -57,7 +56,7 @@ written_holds limit above os near =
 
 -- ---- what Build leaves in the measured first numbers of long enough buffers is that, whatever they held
 
-built : (written b : Buffers) (n : Room) → n ≡ Enough → prefixes (counts_of written) (build_output written b n).buffers ≡ written
+built : (written b : Buffers) (n : Room) → n ≡ Ok tt → prefixes (counts_of written) (build_output written b n).buffers ≡ written
 unfolding build_output
 built w b n h = ap (λ (k : Room). prefixes (counts_of w) (build_output w b k).buffers) h ∙ prefixes_written w b
 

@@ -5,15 +5,14 @@ use mathlib.Core.List.{List}
 use lib.Ieee.{Float}
 use Rattle.float.specs.Number.{min_area}
 use Rattle.scene.specs.Scene.{Scene, refused, accepted, scene}
-use Rattle.mesh.specs.declared.Room.{Room}
-use Rattle.mesh.specs.declared.Room.TheVariants.{Enough, Short}
+use Rattle.std.specs.Prelude.{Ok, Err}
 use Rattle.mesh.specs.PerBuffer.{Buffers}
-use Rattle.mesh.specs.Operations.{output, counts_of, done, too_short, build_output, build_scene, build}
+use Rattle.mesh.specs.Operations.{output, counts_of, done, too_short, build_output, build_scene, build, Room}
 
 room_keeps : (written b : Buffers) (r : Room) → ((build_output written b r).answer.number ≡ 0 → ⊥) → (build_output written b r).buffers ≡ b
 unfolding build_output done
-room_keeps written b Enough h = absurd (h refl)
-room_keeps written b (Short f) h = refl
+room_keeps written b (Ok tt) h = absurd (h refl)
+room_keeps written b (Err f) h = refl
 
 scene_keeps : (limit : Float) (s : Scene) (b : Buffers) → ((build_scene limit s b).answer.number ≡ 0 → ⊥) → (build_scene limit s b).buffers ≡ b
 unfolding build_scene

@@ -5,9 +5,8 @@ use Prim.Native.Nat.{ℕ}
 use lib.Ieee.{Float}
 use Rattle.float.specs.Number.{min_area}
 use Rattle.scene.specs.Scene.{Scene, refused, accepted, scene}
-use Rattle.mesh.specs.declared.Room.{Room}
 use Rattle.mesh.specs.PerBuffer.{Buffers}
-use Rattle.mesh.specs.Operations.{output, counts_of, done, measure_scene, measure, build_output, build_scene, build}
+use Rattle.mesh.specs.Operations.{output, counts_of, done, measure_scene, measure, build_output, build_scene, build, Room}
 use Rattle.mesh.specs.Demand3.{LongEnough}
 use Rattle.mesh.proofs.Rooms.{long_enough}
 

@@ -1,7 +1,6 @@
 -- Laws that go over all buffers: which counts fit, and when the buffers have room. A buffer more is a line in each list of this file. Assumes nothing.
 use mathlib.Core.Path.{◌≡◌, refl, ap, subst₂}
 use mathlib.Core.Bool.{Bool, true, false, ◌||◌, cond}
-use mathlib.Core.List.{List}
 use Prim.Native.Nat.{ℕ, ◌*◌, ◌≤◌, ◌<◌, ◌^◌, zero-le}
 use native.Mathlib.Nat.{le_trans}
 use native.Mathlib.Omega.{arith}
@@ -12,12 +11,11 @@ use Rattle.refusal.specs.declared.Refusal.{Refusal}
 use Rattle.refusal.specs.declared.Refusal.TheVariants.{ShortVertices, ShortIndices, ShortRecords, ShortMillimetres}
 use Rattle.lid.specs.Log.{entry_width}
 use Rattle.mesh.specs.Mesh.{span_width, account_width}
-use Rattle.mesh.specs.declared.Room.{Room}
-use Rattle.mesh.specs.declared.Room.TheVariants.{Enough, Short}
+use Rattle.std.specs.Prelude.{Ok, Err}
 use Rattle.mesh.specs.PerBuffer.{Buffer, PerBuffer, each, at, Counts, numbers_for, Buffers}
 use Rattle.mesh.specs.Contract.PerBuffer.{FitCounts}
 use Rattle.mesh.specs.PerBuffer.Buffer.{vertices, normals, indices, spans, account, log, millimetres}
-use Rattle.mesh.specs.Operations.{no_counts, counts_of, too_short}
+use Rattle.mesh.specs.Operations.{no_counts, counts_of, too_short, Room}
 use Rattle.mesh.specs.Demand3.{LongEnough}
 
 -- ---- counts
@@ -55,21 +53,21 @@ lengths_fit w b l k = subst₂ (λ (x y : ℕ). x ≤ y) (at_each (λ (k : Buffe
 
 -- ---- room
 
-pub long_enough : (has needs : Counts) → LongEnough has needs → too_short has needs ≡ Enough
+pub long_enough : (has needs : Counts) → LongEnough has needs → too_short has needs ≡ Ok tt
 unfolding too_short
 long_enough has needs l =
     let fits : PerBuffer (λ k. ltb (at has k) (at needs k) ≡ false) = each (λ k. le-ltb (at has k) (at needs k) (at l k)) in
     rw (fits.vertices, fits.normals, fits.indices, fits.spans, fits.account, fits.log, fits.millimetres)
 
 abbrev is_enough : Room → Bool
-is_enough Enough = true
-is_enough (Short f) = false
+is_enough (Ok tt) = true
+is_enough (Err f) = false
 
 no : true ≡ false → ⊥
 no q = let z : ◌≡◌ {A = ℕ} 0 1 = cc in omega arith
 
 -- no test was met
-enough : (x : Bool) (f : Refusal) (rest : Room) → Enough ≡ cond x (Short f) rest → (x ≡ false) × (Enough ≡ rest)
+enough : (x : Bool) (f : Refusal) (rest : Room) → Ok tt ≡ cond x (Err f) rest → (x ≡ false) × (Ok tt ≡ rest)
 enough true f rest e = absurd (no (ap is_enough e))
 enough false f rest e = (refl, e)
 
@@ -78,7 +76,7 @@ either_false true b e = absurd (no e)
 either_false false b e = (refl, e)
 
 -- each buffer has room for what was found to fit
-pub enough_room : (has needs : Counts) → Enough ≡ too_short has needs → LongEnough has needs
+pub enough_room : (has needs : Counts) → Ok tt ≡ too_short has needs → LongEnough has needs
 unfolding too_short
 enough_room has needs q =
     let f = enough (ltb has.vertices needs.vertices || ltb has.normals needs.normals) _ _ q in
@@ -105,7 +103,7 @@ needing v i r m = record { vertices = v; normals = v; indices = i; spans = r; ac
 
 -- the first row is given, whatever else is too short
 pub rows_in_order : (i r m : ℕ)
-    → (too_short no_counts (needing 1 i r m) ≡ Short ShortVertices) × (too_short no_counts (needing 0 1 r m) ≡ Short ShortIndices)
-    × (too_short no_counts (needing 0 0 1 m) ≡ Short ShortRecords) × (too_short no_counts (needing 0 0 0 1) ≡ Short ShortMillimetres)
+    → (too_short no_counts (needing 1 i r m) ≡ Err ShortVertices) × (too_short no_counts (needing 0 1 r m) ≡ Err ShortIndices)
+    × (too_short no_counts (needing 0 0 1 m) ≡ Err ShortRecords) × (too_short no_counts (needing 0 0 0 1) ≡ Err ShortMillimetres)
 unfolding too_short no_counts
 rows_in_order i r m = (refl, refl, refl, refl)

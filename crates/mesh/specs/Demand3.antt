@@ -1,5 +1,5 @@
 -- Demand 3: one statement about every accepted list of objects, of what Build leaves in the buffers and of Validate's verdict on that mesh.
-use Rattle.std.specs.Prelude.{ℕ, ◌+◌, ◌-◌, ◌*◌, ◌/◌, ◌≤◌, ◌<◌, ◌≡◌, true, false, cond, List, [], ◌∷◌, map, length, get_or, take, drop, eqb, Float}
+use Rattle.std.specs.Prelude.{ℕ, ◌+◌, ◌-◌, ◌*◌, ◌/◌, ◌≤◌, ◌<◌, ◌≡◌, true, false, cond, List, [], ◌∷◌, map, length, get_or, take, drop, eqb, Float, Ok, Err}
 use Rattle.lists.specs.Each.{Each, Pairwise}
 use Rattle.lists.specs.Loops.{some, join, sum_of}
 use Rattle.float.specs.Number.{min_area, is_finite}
@@ -14,9 +14,8 @@ use Rattle.lid.specs.Log.{Entry, log_numbers, entries_in, is_mark}
 use Rattle.lid.specs.Areas.{AreasAgree}
 use Rattle.shape.specs.Price.{offered}
 use Rattle.shape.specs.Shapes.{faces_of, log_of, flat_of}
-use Rattle.validate.specs.declared.Validation.{Validation}
-use Rattle.validate.specs.declared.Validation.TheVariants.{Judged}
-use Rattle.validate.specs.declared.Verdict.TheVariants.{Ok, Empty}
+use Rattle.validate.specs.declared.MeshError.TheVariants.{Empty}
+use Rattle.validate.specs.Verdict.{Validation}
 use Rattle.validate.specs.Validate.{validate_at, validate}
 use Rattle.mesh.specs.Mesh.{Span, Account, spans_in, accounts_in, kept_by, thin_by, logs_of}
 use Rattle.mesh.specs.PerBuffer.{PerBuffer, each, at, Counts, Buffers}
@@ -91,7 +90,7 @@ pub record Demand3Of (limit : Float) (os : List Object) (mesh : Buffers) (valida
   pub spans : SpansFollow limit (vertices_in mesh.vertices) mesh.indices os (spans_in mesh.spans)
   pub end_to_end : EndToEnd (length mesh.vertices / 3) (length mesh.indices) 0 0 (spans_in mesh.spans)
   pub validated : validation ≡ validate_at limit mesh.vertices mesh.indices
-  pub verdict : validation ≡ Judged (cond (eqb (sum_of (λ (o : Object). kept_by limit o.shape) os) 0) Empty Ok)
+  pub verdict : validation ≡ Ok (cond (eqb (sum_of (λ (o : Object). kept_by limit o.shape) os) 0) (Err Empty) (Ok tt))
   pub areas : AreasFollow os (accounts_in mesh.account) (entries_in mesh.log)
 
 -- the first numbers of each buffer, as many as are counted for it

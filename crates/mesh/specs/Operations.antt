@@ -1,6 +1,6 @@
 -- Document 01, section 2: Measure and Build on lists, with every refusal.
 -- A call is answered by a number (0 where it is not refused), the object named and the counts.
-use Rattle.std.specs.Prelude.{ℕ, ◌||◌, cond, List, map, length, ltb, Float}
+use Rattle.std.specs.Prelude.{ℕ, ◌||◌, cond, List, map, length, ltb, Float, Result, Ok, Err}
 use Rattle.lists.specs.Loops.{over}
 use Rattle.millimetre.specs.Millimetres.{millimetres}
 use Rattle.float.specs.Number.{min_area}
@@ -11,8 +11,6 @@ use Rattle.refusal.specs.declared.Refusal.TheVariants.{ShortVertices, ShortIndic
 use Rattle.refusal.specs.Rows.{number_of}
 use Rattle.scene.specs.Scene.{Scene, refused, accepted, scene}
 use Rattle.lid.specs.Log.{Entry, log_numbers}
-use Rattle.mesh.specs.declared.Room.{Room}
-use Rattle.mesh.specs.declared.Room.TheVariants.{Enough, Short}
 use Rattle.mesh.specs.PerBuffer.{each, at, Counts, Buffers, lent}
 use Rattle.mesh.specs.Mesh.{Account, Mesh, mesh_of, accounts_of, logs_of, span_numbers, account_numbers}
 
@@ -54,14 +52,17 @@ measure bytes = measure_scene min_area (scene bytes)
 
 -- ---- Build
 
--- the row of the first buffer that is too short
+-- whether the buffers have room, or the row of the first that is too short
+abbrev pub Room : Type 0
+Room = Result (Unit {0}) Refusal
+
 unfoldable pub too_short : Counts → Counts → Room
 too_short has needs =
-    cond (ltb has.vertices needs.vertices || ltb has.normals needs.normals) (Short ShortVertices)
-    (cond (ltb has.indices needs.indices) (Short ShortIndices)
-    (cond (ltb has.spans needs.spans || ltb has.account needs.account || ltb has.log needs.log) (Short ShortRecords)
-    (cond (ltb has.millimetres needs.millimetres) (Short ShortMillimetres)
-    Enough)))
+    cond (ltb has.vertices needs.vertices || ltb has.normals needs.normals) (Err ShortVertices)
+    (cond (ltb has.indices needs.indices) (Err ShortIndices)
+    (cond (ltb has.spans needs.spans || ltb has.account needs.account || ltb has.log needs.log) (Err ShortRecords)
+    (cond (ltb has.millimetres needs.millimetres) (Err ShortMillimetres)
+    (Ok tt))))
 
 -- the buffers with what is written over their first numbers
 unfoldable pub overlay : Buffers → Buffers → Buffers
@@ -77,8 +78,8 @@ abbrev pub refused_build : Refusal → ℕ → Buffers → Built
 refused_build f object b = record { answer = refused_with f object; buffers = b }
 
 unfoldable pub build_output : Buffers → Buffers → Room → Built
-build_output written b Enough = record { answer = done written; buffers = overlay written b }
-build_output written b (Short f) = refused_build f 0 b
+build_output written b (Ok tt) = record { answer = done written; buffers = overlay written b }
+build_output written b (Err f) = refused_build f 0 b
 
 unfoldable pub build_scene : Float → Scene → Buffers → Built
 build_scene limit (refused f object) b = refused_build f object b

@@ -3,16 +3,7 @@
 
 #![tactic(auto)]
 
-use refusal::Refusal;
-
 // The numbers of a span, and of an object's account.
 pub const SPAN_WIDTH: usize = 5;
 
 pub const ACCOUNT_WIDTH: usize = 4;
-
-// Whether the lent buffers have room for what is measured: by which row the first that has none is refused.
-#[derive(Clone, Copy)]
-pub enum Room {
-    Enough,
-    Short(Refusal),
-}

@@ -1,27 +1,23 @@
 -- Measure and Build by what the checking pass says of the scene, and Validate behind Build: demand 3 of what they leave. Assumes nothing.
 use mathlib.Core.Path.{◌≡◌, sym, ap, ap₂, ◌∙◌, subst}
 use mathlib.Core.List.{List}
-use Prim.Native.Nat.{ℕ, zero, suc, ◌*◌, ◌≤◌, ◌<◌, zero-le}
+use Prim.Native.Nat.{ℕ, ◌≤◌, zero-le}
 use native.Mathlib.Omega.{arith}
 use lib.ListN.{length, take, drop, length-append}
 use lib.Ieee.{Float}
 use Rattle.lists.specs.Loops.{over}
 use Rattle.float.specs.Number.{min_area}
 use Rattle.object.specs.Object.{Object}
-use Rattle.refusal.specs.declared.Refusal.{Refusal}
-use Rattle.scene.specs.declared.scenes.Checked.TheVariants.{Refused as CheckedRefused, Accepted}
+use Rattle.std.specs.Prelude.{Ok, Err}
+use Rattle.refusal.specs.declared.Refused.{Refused}
 use Rattle.scene.specs.Scene.{Scene, refused, accepted, scene}
 use Rattle.scene.specs.Contract.Answers.{checked_of, objects_of}
 use Rattle.scene.proofs.Walk.{checked_accepted, checked_refused}
-use Rattle.validate.specs.declared.Validation.{Validation}
+use Rattle.validate.specs.Verdict.{Validation}
 use Rattle.validate.specs.Validate.{validate}
-use Rattle.mesh_answer.specs.declared.Counted.{Counted}
-use Rattle.mesh_answer.specs.declared.Answered.TheVariants.{Refused, Counts as CountsAre}
-use Rattle.mesh.specs.declared.Room.{Room}
-use Rattle.mesh.specs.declared.Room.TheVariants.{Enough, Short}
 use Rattle.mesh.specs.PerBuffer.{Buffers}
-use Rattle.mesh.specs.Operations.{Answer, Built, output, no_counts, refused_with, counts_of, done, measure, too_short, overlay, build_output, build_scene, build}
-use Rattle.mesh_answer.specs.Answers.{counts_from, answer_of, built_with, BuiltAndJudged, judged, build_and_validate}
+use Rattle.mesh.specs.Operations.{Answer, Built, output, no_counts, refused_with, counts_of, done, measure, too_short, overlay, build_output, build_scene, build, Room}
+use Rattle.mesh_answer.specs.Answers.{built_with, BuiltAndJudged, judged, build_and_validate}
 use Rattle.mesh.specs.Demand3.{LongEnough, prefixes, Demand3Of}
 use Rattle.mesh.proofs.Measured.{answers_measured}
 use Rattle.mesh.proofs.Demand3.{demand3}
@@ -29,8 +25,8 @@ use Rattle.mesh.proofs.Demand3.{demand3}
 output_fits : (w b : Buffers) (n : Room)
     → ((build_output w b n).answer.counts.vertices ≤ length (build_output w b n).buffers.vertices) × ((build_output w b n).answer.counts.indices ≤ length (build_output w b n).buffers.indices)
 unfolding build_output done counts_of overlay refused_with no_counts over
-output_fits w b Enough = (omega (arith, length-append w.vertices (drop (length w.vertices) b.vertices)), omega (arith, length-append w.indices (drop (length w.indices) b.indices)))
-output_fits w b (Short f) = (zero-le, zero-le)
+output_fits w b (Ok tt) = (omega (arith, length-append w.vertices (drop (length w.vertices) b.vertices)), omega (arith, length-append w.indices (drop (length w.indices) b.indices)))
+output_fits w b (Err f) = (zero-le, zero-le)
 
 module _ (limit : Float) where
   scene_fits : (t : Scene) (b : Buffers)
@@ -40,11 +36,11 @@ module _ (limit : Float) where
   scene_fits (accepted os) b = output_fits (output limit os) b (too_short (counts_of b) (counts_of (output limit os)))
 
   module _ (s : List ℕ) (b : Buffers) where
-    pub build_refused : (f : Refusal) (object : ℕ) → CheckedRefused f object ≡ checked_of (scene s) → built_with (Refused f object) b ≡ build_scene limit (scene s) b
+    pub build_refused : (r : Refused) → Err r ≡ checked_of (scene s) → built_with (Err r) b ≡ build_scene limit (scene s) b
     unfolding build_scene
-    build_refused f object h = sym (ap (λ (t : Scene). build_scene limit t b) (checked_refused (scene s) f object h))
+    build_refused r h = sym (ap (λ (t : Scene). build_scene limit t b) (checked_refused (scene s) r h))
 
-    pub build_accepted : (n : ℕ) (r : Built) → Accepted n ≡ checked_of (scene s) → ((os : List Object) → scene s ≡ accepted os → r ≡ build_scene limit (accepted os) b) → r ≡ build_scene limit (scene s) b
+    pub build_accepted : (n : ℕ) (r : Built) → Ok n ≡ checked_of (scene s) → ((os : List Object) → scene s ≡ accepted os → r ≡ build_scene limit (accepted os) b) → r ≡ build_scene limit (scene s) b
     build_accepted n r h k = let q = checked_accepted s n h in k (objects_of (scene s)) q.is ∙ sym (ap (λ (t : Scene). build_scene limit t b) q.is)
 
 -- ---- Validate behind it

@@ -1,15 +1,18 @@
--- What the operations answer, by the enums of src/lib.rt: document 01's number and values for each case.
-use Rattle.std.specs.Prelude.{◌≡◌, ℕ, List, take, ℤ, Float}
+-- What the operations answer, by the types of src/lib.rt: the number and values of each case.
+use Rattle.std.specs.Prelude.{◌≡◌, ℕ, List, take, ℤ, Float, Result, Ok, Err}
 use Rattle.lists.specs.Slices.{Slice}
-use Rattle.validate.specs.declared.Validation.{Validation}
+use Rattle.refusal.specs.declared.Refused.{Refused}
+use Rattle.validate.specs.Verdict.{Validation}
 use Rattle.validate.specs.Validate.{validate}
 use Rattle.mesh_answer.specs.declared.Counted.{Counted}
-use Rattle.mesh_answer.specs.declared.Answered.{Answered}
-use Rattle.mesh_answer.specs.declared.Answered.TheVariants.{Refused, Counts}
 use Rattle.mesh_answer.specs.declared.Answer.{Answer as CAnswer}
 use Rattle.mesh_answer.specs.declared.JudgedBuild.{JudgedBuild}
 use Rattle.mesh.specs.PerBuffer.{Counts as Numbers, Buffers, entering, leaving}
 use Rattle.mesh.specs.Operations.{Answer, Built, refused_with, build}
+
+-- the counts, or the refusal and the object named
+abbrev pub Answered : Type 0
+Answered = Result Counted Refused
 
 abbrev pub counts_from : Counted → Numbers
 counts_from c = record { vertices = c.vertices; normals = c.normals; indices = c.indices; spans = c.spans; account = c.account; log = c.log; millimetres = c.millimetres }
@@ -23,8 +26,8 @@ abbrev pub accepts : Counted → Answer
 accepts c = record { number = 0; object = 0; counts = counts_from c }
 
 abbrev pub answer_of : Answered → Answer
-answer_of (Refused f object) = refused_with f object
-answer_of (Counts c) = accepts c
+answer_of (Err refused) = refused_with refused.refusal refused.object
+answer_of (Ok c) = accepts c
 
 -- an answer of Build and what the buffers hold
 abbrev pub built_with : Answered → Buffers → Built

@@ -1,19 +1,19 @@
-// What the operations answer: specs/Answers.antt gives document 01's number and values for each case.
+// What the operations answer: specs/Answers.antt gives the number and values of each case.
 
 #![tactic(auto)]
 
 ghost use Rattle.std.specs.Prelude.{◌≡◌};
 ghost use Rattle.mesh.specs.PerBuffer.{numbers_for};
 ghost use Rattle.mesh.specs.Contract.PerBuffer.{FitCounts};
-ghost use Rattle.mesh.specs.Operations.{no_counts, refused_with};
-ghost use Rattle.mesh_answer.specs.Answers.{counts_from, accepts, answer_from, answer_of};
+ghost use Rattle.mesh_answer.specs.Answers.{counts_from, answer_from, answer_of};
 
 use lid::ENTRY_WIDTH;
 use mesh::{ACCOUNT_WIDTH, SPAN_WIDTH};
-use refusal::{Refusal, refusal_number};
+use refusal::Refused;
 use validate::Validation;
 
-// How many numbers each buffer gets.
+// How many numbers each buffer gets. `Lengths` has the same fields: one struct with a type argument
+// can't stand in the signature of an exported function (the C interface).
 #[repr(C)]
 #[derive(Clone, Copy)]
 pub struct Counted {
@@ -38,12 +38,18 @@ pub struct Lengths {
     pub millimetres: usize,
 }
 
-// What Measure and Build answer: by which row the call is refused and the object named, or the counts.
-#[derive(Clone, Copy)]
-pub enum Answered {
-    Refused(Refusal, u32),
-    Counts(Counted),
-}
+const NO_COUNTS: Counted = Counted {
+    vertices: 0,
+    normals: 0,
+    indices: 0,
+    spans: 0,
+    account: 0,
+    log: 0,
+    millimetres: 0,
+};
+
+// What Measure and Build answer: the counts, or by which row the call is refused and the object named.
+pub type Answered = Result<Counted, Refused>;
 
 // How many numbers of the vertices and of the indices Build has written.
 #[derive(Clone, Copy)]
@@ -84,63 +90,39 @@ pub fn numbers_for(vertices: u32, triangles: u32, spans: u32, objects: u32, entr
     }
 }
 
-impl Counted {
-    fn none() -> Counted
-        ensures { counts_from result ≡ no_counts }
-    {
-        Counted {
-            vertices: 0,
-            normals: 0,
-            indices: 0,
-            spans: 0,
-            account: 0,
-            log: 0,
-            millimetres: 0,
+impl From<Answered> for Answer {
+    ghost from_gives = { λ answered answer. answer_from answer ≡ answer_of answered };
+
+    #[tactic(auto, unfolding(mesh::specs::Operations::refused_with, mesh::specs::Operations::no_counts))]
+    fn from(answered: Answered) -> Answer {
+        match answered {
+            Ok(counts) => Answer {
+                refusal: 0,
+                object: 0,
+                counts,
+            },
+            Err(refused) => Answer {
+                refusal: refused.refusal.into(),
+                object: refused.object,
+                counts: NO_COUNTS,
+            },
         }
     }
 }
 
-impl Answer {
-    fn refused(f: Refusal, object: u32) -> Answer
-        ensures { answer_from result ≡ refused_with f object }
-    {
-        Answer {
-            refusal: refusal_number(f),
-            object,
-            counts: Counted::none(),
-        }
-    }
-
-    fn accepted(counts: Counted) -> Answer
-        ensures { answer_from result ≡ accepts counts }
-    {
-        Answer {
-            refusal: 0,
-            object: 0,
-            counts,
-        }
-    }
-}
-
-impl Answered {
-    pub fn numbers(self) -> Answer
-        ensures { answer_from result ≡ answer_of self }
-    {
-        match self {
-            Answered::Refused(f, object) => Answer::refused(f, object),
-            Answered::Counts(c) => Answer::accepted(c),
-        }
-    }
-
-    // None where the call is refused.
-    pub fn mesh_lengths(self) -> MeshLengths
-        ensures { (result.vertices ≡ (answer_of self).counts.vertices) × (result.indices ≡ (answer_of self).counts.indices) }
-    {
-        let a = self.numbers();
-        let c = a.counts;
-        MeshLengths {
+// None where the call is refused.
+#[tactic(auto, unfolding(mesh::specs::Operations::refused_with, mesh::specs::Operations::no_counts))]
+pub fn mesh_lengths(answered: Answered) -> MeshLengths
+    ensures { (result.vertices ≡ (answer_of answered).counts.vertices) × (result.indices ≡ (answer_of answered).counts.indices) }
+{
+    match answered {
+        Ok(c) => MeshLengths {
             vertices: c.vertices as usize,
             indices: c.indices as usize,
-        }
+        },
+        Err(_) => MeshLengths {
+            vertices: 0,
+            indices: 0,
+        },
     }
 }

@@ -10,7 +10,7 @@ use lib.ListN.{length, length-append}
 use lib.Ieee.{Float}
 use borrow.Author.Tests.{ne_eqb}
 use Rattle.lists.specs.Loops.{join, sum_of}
-use Rattle.object.specs.Object.{Shape, Object}
+use Rattle.object.specs.Object.{Object}
 use Rattle.face.specs.Faces.{Triangle, Face, kept_of, nothing, behind, write_kept, write_face, write_faces}
 use Rattle.shape.specs.Shapes.{faces_of, log_of}
 use Rattle.mesh.specs.Mesh.{kept_by, piece_of, span_of, add_piece, mesh_from, logs_of}

@@ -10,6 +10,7 @@ ghost use Rattle.mesh_bound.specs.Most.{of_shape, solid_most, outline_most, swee
 ghost use Rattle.mesh_bound.specs.Contract.Groups.{FewOfBoth};
 
 use object::Extent;
+use std::ops::Add;
 
 // The most vertices, triangles, spans and log entries.
 #[derive(Clone, Copy)]
@@ -28,11 +29,37 @@ pub enum Group {
     Others,
 }
 
-// Whether objects are measured, by drawing them, or counted at the most that their headers allow.
+// Whether objects are measured, by drawing them, or counted at the most that their headers allow. This
+// and `Group` are no closures: the theorems `groups_enough` and `both_groups` speak of each of them.
 #[derive(Clone, Copy)]
 pub enum Counting {
     Exact,
     Highest,
+}
+
+pub const NOTHING: Most = Most {
+    vertices: 0,
+    triangles: 0,
+    spans: 0,
+    entries: 0,
+};
+
+// What both groups of a scene's objects come to.
+impl Add for Most {
+    type Output = Most;
+
+    ghost can_add = { λ a b. FewOfBoth (together a b) };
+
+    ghost add_gives = { λ a b sum. sum ≡ together a b };
+
+    fn add(self, other: Most) -> Most {
+        Most {
+            vertices: self.vertices + other.vertices,
+            triangles: self.triangles + other.triangles,
+            spans: self.spans + other.spans,
+            entries: self.entries + other.entries,
+        }
+    }
 }
 
 // So many of one shape.
@@ -40,30 +67,12 @@ pub fn of_shape(vertices: u32, triangles: u32, entries: u32) -> Most
     ensures { result ≡ of_shape vertices triangles entries }
 {
     let kept = triangles;
-    if kept == 0 {
-        return Most {
-            vertices,
-            triangles,
-            spans: 0,
-            entries,
-        };
-    }
     Most {
         vertices,
         triangles,
-        spans: 1,
+        spans: if kept == 0 { 0 } else { 1 },
         entries,
     }
-}
-
-// n without k, or 0.
-fn less(n: u32, k: u32) -> u32
-    ensures { result ≡ n - k }
-{
-    if n <= k {
-        return 0;
-    }
-    n - k
 }
 
 fn cylinder_most(height: f32) -> Most
@@ -75,6 +84,7 @@ fn cylinder_most(height: f32) -> Most
     of_shape(80, 46, 0)
 }
 
+#[tactic(auto, unfolding(crate::specs::Most::solid_most))]
 pub fn solid_most(extent: Extent) -> Most
     ensures { result ≡ solid_most extent }
 {
@@ -86,38 +96,36 @@ pub fn solid_most(extent: Extent) -> Most
 }
 
 // Of outer corners, those of the holes, and holes.
+#[tactic(auto, unfolding(crate::specs::Most::outline_most))]
 pub fn outline_most(closed: bool, outer: u32, inner: u32, holes: u32) -> Most
     requires { (outer + inner ≤ most_corners) × (holes ≤ most_holes) }
     ensures { result ≡ outline_most closed outer inner holes }
 {
     if closed {
         let n = outer + inner;
-        let lid = less(n + 2 * holes, 2);
-        return of_shape(6 * n, 2 * n + 2 * lid, 1 + less(n + 3 * holes, 1));
+        let lid = (n + 2 * holes).saturating_sub(2);
+        let entries = 1 + (n + 3 * holes).saturating_sub(1);
+        return of_shape(6 * n, 2 * n + 2 * lid, entries);
     }
-    let walls = less(outer, 1) + inner;
+    let walls = outer.saturating_sub(1) + inner;
     of_shape(4 * walls, 2 * walls, 0)
 }
 
+#[tactic(auto, unfolding(crate::specs::Most::sweep_most))]
 pub fn sweep_most(round: bool, sections: u32) -> Most
     requires { sections ≤ most_sections }
     ensures { result ≡ sweep_most round sections }
 {
     if round {
-        return of_shape(less(64 * sections, 32), less(32 * sections, 4), 0);
+        return of_shape(
+            (64 * sections).saturating_sub(32),
+            (32 * sections).saturating_sub(4),
+            0,
+        );
     }
-    of_shape(less(16 * sections, 8), less(8 * sections, 4), 0)
-}
-
-// What both groups of a scene's objects come to.
-pub fn add(a: Most, b: Most) -> Most
-    requires { FewOfBoth (together a b) }
-    ensures { result ≡ together a b }
-{
-    Most {
-        vertices: a.vertices + b.vertices,
-        triangles: a.triangles + b.triangles,
-        spans: a.spans + b.spans,
-        entries: a.entries + b.entries,
-    }
+    of_shape(
+        (16 * sections).saturating_sub(8),
+        (8 * sections).saturating_sub(4),
+        0,
+    )
 }

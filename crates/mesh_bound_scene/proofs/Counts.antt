@@ -5,7 +5,7 @@ use Prim.Native.Nat.{ℕ}
 use lib.ListN.{length}
 use lib.Ieee.{Float}
 use Rattle.object.specs.Object.{Object}
-use Rattle.scene.specs.declared.scenes.Checked.TheVariants.{Accepted}
+use Rattle.std.specs.Prelude.{Ok}
 use Rattle.scene.specs.Scene.{Scene, accepted, scene}
 use Rattle.scene.specs.Contract.Answers.{checked_of, objects_of}
 use Rattle.scene.proofs.Walk.{checked_accepted}
@@ -31,7 +31,7 @@ module _ (limit : Float) (s : List ℕ) where
   abbrev pub Suffices : Most → Type 0
   Suffices m = (os : List Object) → scene s ≡ accepted os → AtMost (of_all (exact_of limit) os) m
 
-  pub objects_count : (n : ℕ) → Accepted n ≡ checked_of (scene s) → (os : List Object) → scene s ≡ accepted os → n ≡ length os
+  pub objects_count : (n : ℕ) → Ok n ≡ checked_of (scene s) → (os : List Object) → scene s ≡ accepted os → n ≡ length os
   objects_count n h os e = sym (checked_accepted s n h).size ∙ ap (λ (t : Scene). length (objects_of t)) e
 
   pub sum_suffices : {m : Most} → SumOf All Highest m → Suffices m

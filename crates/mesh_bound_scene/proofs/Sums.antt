@@ -8,7 +8,7 @@ use lib.ListN.{length, get_or, drop, drop_of_length-le}
 use lib.Ieee.{Float}
 use Rattle.object.specs.Object.{Object}
 use Rattle.scene.specs.declared.headers.Header.{Header}
-use Rattle.scene.specs.declared.scenes.Checked.TheVariants.{Accepted}
+use Rattle.std.specs.Prelude.{Ok}
 use Rattle.scene.specs.Scene.{Scene, accepted, scene, trailer}
 use Rattle.scene.specs.Contract.Answers.{checked_of, objects_of}
 use Rattle.scene.specs.Contract.Headers.{body_at, header_at, shape_of}
@@ -40,7 +40,7 @@ pub record Sums (limit : Float) (group : Group) (counting : Counting) (s : List 
   pub few : Few m at k
   pub same : together m (bound_of_all group counting limit (drop k (objects_of (scene s)))) ≡ bound_of_all group counting limit (objects_of (scene s))
 
-pub sums_start : (limit : Float) (group : Group) (counting : Counting) (s : List ℕ) (n : ℕ) → Accepted n ≡ checked_of (scene s) → Sums limit group counting s n nothing 0 0
+pub sums_start : (limit : Float) (group : Group) (counting : Counting) (s : List ℕ) (n : ℕ) → Ok n ≡ checked_of (scene s) → Sums limit group counting s n nothing 0 0
 sums_start limit group counting s n h =
     let q = checked_accepted s n h in
     record {

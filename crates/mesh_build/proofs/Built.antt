@@ -15,18 +15,17 @@ use Rattle.lists.proofs.Stores.{sets_over}
 use Rattle.millimetre.specs.Millimetres.{millimetres}
 use Rattle.millimetre.specs.Contract.Reach.{InReach}
 use Rattle.object.specs.Object.{Object}
+use Rattle.std.specs.Prelude.{Ok, Err}
 use Rattle.refusal.specs.declared.Refusal.{Refusal}
-use Rattle.scene.specs.declared.scenes.Checked.TheVariants.{Refused as CheckedRefused, Accepted}
+use Rattle.refusal.specs.declared.Refused.{Refused}
 use Rattle.scene.specs.Scene.{Scene, accepted, scene}
 use Rattle.scene.specs.Contract.Answers.{checked_of, objects_of}
 use Rattle.scene.proofs.Walk.{checked_accepted}
 use Rattle.scene.proofs.Accepted.{accepted_near}
-use Rattle.mesh_answer.specs.declared.Counted.{Counted}
-use Rattle.mesh_answer.specs.declared.Answered.TheVariants.{Counts as CountsAre}
-use Rattle.mesh.specs.declared.Room.TheVariants.{Enough, Short}
 use Rattle.mesh.specs.PerBuffer.{each, at, Counts, Buffers, lent}
 use Rattle.mesh.specs.Contract.PerBuffer.{FitCounts}
 use Rattle.mesh.specs.Operations.{output, counts_of, done, too_short, overlay, refused_build, build_output, build_scene}
+use Rattle.mesh_answer.specs.declared.Counted.{Counted}
 use Rattle.mesh_answer.specs.Answers.{built_with}
 use Rattle.mesh_answer.proofs.Calls.{build_refused, build_accepted}
 use Rattle.mesh_progress.specs.Contract.Pass.{drawn_into, beginning, CanAddAll}
@@ -40,9 +39,7 @@ use Rattle.mesh_bound.specs.Most.{numbers_of}
 use Rattle.mesh_bound.proofs.Exact.{exact_counts}
 use Rattle.mesh_bound.proofs.Bounds.{enough_written}
 use Rattle.mesh_bound_scene.proofs.Counts.{Measured, Suffices, objects_count}
-use Rattle.mesh_build.specs.declared.Plan.{Plan}
-use Rattle.mesh_build.specs.declared.Plan.TheVariants.{Refuse, Write}
-use Rattle.mesh_build.specs.Contract.Plan.{PlanBy, PlanHolds}
+use Rattle.mesh_build.specs.Contract.Plan.{Plan, PlanBy, PlanHolds}
 
 -- what fits u32, and no more than that
 fewer : {a b : Counts} → FitCounts a → LongEnough a b → FitCounts b
@@ -80,7 +77,7 @@ module _ (limit : Float) (os : List Object) {c : Counted} {vs ns : List Float} {
       (omega (arith, l.millimetres, ap length (output_millimetres limit os), length-map all.vertices millimetres))
 
   built_whole : {ms' : List ℤ} → ms' ≡ over (map millimetres (take c.vertices vs')) ms
-      → built_with (CountsAre c) (lent vs' ns' is' ss' accounts' ls' ms') ≡ build_scene limit (accepted os) (lent vs ns is ss accounts ls ms)
+      → built_with (Ok c) (lent vs' ns' is' ss' accounts' ls' ms') ≡ build_scene limit (accepted os) (lent vs ns is ss accounts ls ms)
   unfolding build_scene build_output counts_of done stored overlay
   built_whole h =
       let b = lent vs ns is ss accounts ls ms in
@@ -101,22 +98,22 @@ module _ (limit : Float) (os : List Object) {c : Counted} {vs ns : List Float} {
 -- ---- the plan by counts
 
 module _ (has : Counts) (n : ℕ) {counted needs : Counts} (e : counted ≡ needs) where
-  pub plan_complete : FitCounts needs → Enough ≡ too_short has counted → PlanBy has needs n (Write n)
+  pub plan_complete : FitCounts needs → Ok tt ≡ too_short has counted → PlanBy has needs n (Ok n)
   plan_complete f q = (refl, subst (LongEnough has) e (enough_room has counted q), f)
 
-  pub plan_short : (f : Refusal) → Short f ≡ too_short has counted → PlanBy has needs n (Refuse f 0)
+  pub plan_short : (f : Refusal) → Err f ≡ too_short has counted → PlanBy has needs n (Err (record { refusal = f; object = 0 }))
   unfolding build_output
   plan_short f q = λ w b. ap (build_output w b) (q ∙ ap (too_short has) e)
 
 -- ---- the plan for a scene
 
 module _ (limit : Float) (s : List ℕ) (has : Counts) where
-  pub plan_refused : (f : Refusal) (object : ℕ) → CheckedRefused f object ≡ checked_of (scene s) → PlanHolds limit s has (Refuse f object)
-  plan_refused f object h = λ b e. build_refused limit s b f object h
+  pub plan_refused : (r : Refused) → Err r ≡ checked_of (scene s) → PlanHolds limit s has (Err r)
+  plan_refused r h = λ b e. build_refused limit s b r h
 
-  module _ (n : ℕ) (h : Accepted n ≡ checked_of (scene s)) {m : Most} where
+  module _ (n : ℕ) (h : Ok n ≡ checked_of (scene s)) {m : Most} where
     -- with room for what suffices
-    pub plan_bounded : Suffices limit s m → {r : Plan} {k : ℕ} → r ≡ Write k → PlanBy has (numbers_of m n) n r → PlanHolds limit s has (Write n)
+    pub plan_bounded : Suffices limit s m → {r : Plan} {k : ℕ} → r ≡ Ok k → PlanBy has (numbers_of m n) n r → PlanHolds limit s has (Ok n)
     plan_bounded p is d =
         let x = subst (PlanBy has (numbers_of m n) n) is d in
         (h, λ os e. let enough = rw (← objects_count limit s n h os e) at (enough_written limit os (p os e)) in (longer x.1 enough, fewer x.2 enough))
@@ -127,19 +124,19 @@ module _ (limit : Float) (s : List ℕ) (has : Counts) where
     -- with all measured
     pub plan_exact : Measured limit s m → (r : Plan) → PlanBy has (numbers_of m n) n r → PlanHolds limit s has r
     unfolding build_scene
-    plan_exact p (Refuse x object) d =
-        λ lent f. build_accepted limit s lent n (refused_build x object lent) h (λ os e. d (output limit os) lent ∙ ap₂ (λ (x y : Counts). build_output (output limit os) lent (too_short x y)) (sym f) (measured_counts p os e))
-    plan_exact p (Write k) d =
-        (subst (λ (m : ℕ). Accepted m ≡ checked_of (scene s)) (sym d.0) h, λ os e. (subst (LongEnough has) (measured_counts p os e) d.1, subst FitCounts (measured_counts p os e) d.2))
+    plan_exact p (Err x) d =
+        λ lent f. build_accepted limit s lent n (refused_build x.refusal x.object lent) h (λ os e. d (output limit os) lent ∙ ap₂ (λ (x y : Counts). build_output (output limit os) lent (too_short x y)) (sym f) (measured_counts p os e))
+    plan_exact p (Ok k) d =
+        (subst (λ (m : ℕ). Ok m ≡ checked_of (scene s)) (sym d.0) h, λ os e. (subst (LongEnough has) (measured_counts p os e) d.1, subst FitCounts (measured_counts p os e) d.2))
 
   -- the planned objects fit the program's counts
-  pub can_write : (n : ℕ) → PlanHolds limit s has (Write n) → CanAddAll limit s beginning
+  pub can_write : (n : ℕ) → PlanHolds limit s has (Ok n) → CanAddAll limit s beginning
   can_write n p = λ os b e. counts_fit limit os b (p.1 os e).1
 
 -- ---- Build behind a plan to write n objects
 
 module _ (limit : Float) (s : List ℕ) (n : ℕ) {c : Counted} (vs ns : List Float) (is ss accounts ls : List ℕ) (ms : List ℤ) {vs' ns' : List Float} {is' ss' accounts' ls' : List ℕ}
-    (p : PlanHolds limit s (counts_of (lent vs ns is ss accounts ls ms)) (Write n))
+    (p : PlanHolds limit s (counts_of (lent vs ns is ss accounts ls ms)) (Ok n))
     (k : WroteScene limit s c (drawn_into vs ns is ss accounts ls) (drawn_into vs' ns' is' ss' accounts' ls')) where
   abbrev objects : List Object
   objects = objects_of (scene s)
@@ -163,5 +160,5 @@ module _ (limit : Float) (s : List ℕ) (n : ℕ) {c : Counted} (vs ns : List Fl
   planned_reach = subst (Each InReach) (sym (vertices_are limit objects ms wrote room_is)) (output_in_reach limit objects (accepted_near s objects is_accepted))
 
   pub planned_built : {ms' : List ℤ} → ms' ≡ over (map millimetres (take c.vertices vs')) ms
-      → built_with (CountsAre c) (lent vs' ns' is' ss' accounts' ls' ms') ≡ build_scene limit (scene s) (lent vs ns is ss accounts ls ms)
+      → built_with (Ok c) (lent vs' ns' is' ss' accounts' ls' ms') ≡ build_scene limit (scene s) (lent vs ns is ss accounts ls ms)
   planned_built h = built_whole limit objects ms wrote room_is h ∙ sym (ap (λ (t : Scene). build_scene limit t (lent vs ns is ss accounts ls ms)) is_accepted)

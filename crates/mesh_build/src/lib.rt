@@ -4,9 +4,8 @@
 
 mod pass;
 
-ghost use Rattle.std.specs.Prelude.{◌≡◌, ◌≤◌};
+ghost use Rattle.std.specs.Prelude.{◌≡◌, ◌≤◌, Ok};
 ghost use Rattle.scene_field.specs.Layout.{most_objects};
-ghost use Rattle.scene.specs.declared.scenes.Checked.TheVariants.{Accepted};
 ghost use Rattle.scene.specs.Scene.{scene};
 ghost use Rattle.scene.specs.Contract.Answers.{checked_of};
 ghost use Rattle.mesh.specs.Operations.{build_scene, build};
@@ -18,20 +17,14 @@ ghost use Rattle.mesh_build.specs.Contract.Plan.{PlanBy, PlanHolds};
 
 use crate::pass::write_all;
 use float::MIN_AREA;
-use mesh::Room;
 use mesh_answer::{Answered, Lengths};
-use mesh_bound::{Counting, Group, Most, add};
+use mesh_bound::{Counting, Group, Most};
 use mesh_bound_scene::bound_of_all;
 use mesh_measure::room::{bound_counts, room};
-use refusal::Refusal;
-use scene::scenes::Checked;
+use refusal::Refused;
 
-// What is to be done before a buffer is touched: refuse, or write so many objects.
-#[derive(Clone, Copy)]
-pub enum Plan {
-    Refuse(Refusal, u32),
-    Write(u32),
-}
+// What is to be done before a buffer is touched: write so many objects, or refuse.
+pub type Plan = Result<u32, Refused>;
 
 // By what n objects come to.
 fn plan_bounds(has: Lengths, m: Most, n: u32) -> Plan
@@ -39,8 +32,8 @@ fn plan_bounds(has: Lengths, m: Most, n: u32) -> Plan
     ensures { PlanBy (lengths_from has) (numbers_of m n) n result }
 {
     match room(has, bound_counts(m, n)) {
-        Room::Enough => Plan::Write(n),
-        Room::Short(f) => Plan::Refuse(f, 0),
+        Ok(()) => Ok(n),
+        Err(refusal) => Err(Refused { refusal, object: 0 }),
     }
 }
 
@@ -48,26 +41,26 @@ fn plan_bounds(has: Lengths, m: Most, n: u32) -> Plan
 // cutting, then with all measured, which is exact and so tells the refusal too. No object is drawn
 // twice for the plan; writing then draws it again.
 fn plan_measured(s: &[u8], n: u32, limit: f32, has: Lengths) -> Plan
-    requires { Accepted n ≡ checked_of (scene s.now) }
+    requires { Ok n ≡ checked_of (scene s.now) }
     ensures { PlanHolds limit s.now (lengths_from has) result }
 {
     let others = bound_of_all(s, n, limit, Group::Others, Counting::Exact);
     let most = bound_of_all(s, n, limit, Group::Lids, Counting::Highest);
-    if let Plan::Write(_) = plan_bounds(has, add(others, most), n) {
-        return Plan::Write(n);
+    if let Ok(_) = plan_bounds(has, others + most, n) {
+        return Ok(n);
     }
     let lids = bound_of_all(s, n, limit, Group::Lids, Counting::Exact);
-    plan_bounds(has, add(others, lids), n)
+    plan_bounds(has, others + lids, n)
 }
 
 // First by the most that they can come to.
 fn plan_objects(s: &[u8], n: u32, limit: f32, has: Lengths) -> Plan
-    requires { Accepted n ≡ checked_of (scene s.now) }
+    requires { Ok n ≡ checked_of (scene s.now) }
     ensures { PlanHolds limit s.now (lengths_from has) result }
 {
     let most = bound_of_all(s, n, limit, Group::All, Counting::Highest);
-    if let Plan::Write(_) = plan_bounds(has, most, n) {
-        return Plan::Write(n);
+    if let Ok(_) = plan_bounds(has, most, n) {
+        return Ok(n);
     }
     plan_measured(s, n, limit, has)
 }
@@ -75,10 +68,8 @@ fn plan_objects(s: &[u8], n: u32, limit: f32, has: Lengths) -> Plan
 fn plan_scene(s: &[u8], limit: f32, has: Lengths) -> Plan
     ensures { PlanHolds limit s.now (lengths_from has) result }
 {
-    match scene_check::check_scene(s) {
-        Checked::Refused(f, object) => Plan::Refuse(f, object),
-        Checked::Accepted(n) => plan_objects(s, n, limit, has),
-    }
+    let n = scene_check::check_scene(s)?;
+    plan_objects(s, n, limit, has)
 }
 
 // At a limit below which a triangle is thin.
@@ -104,23 +95,22 @@ fn build_scene(
         log: log.len(),
         millimetres: millimetres.len(),
     };
-    match plan_scene(s, limit, has) {
-        Plan::Refuse(f, object) => Answered::Refused(f, object),
-        Plan::Write(n) => Answered::Counts(write_all(
-            s,
-            n,
-            limit,
-            vertices,
-            normals,
-            indices,
-            spans,
-            account,
-            log,
-            millimetres,
-        )),
-    }
+    let n = plan_scene(s, limit, has)?;
+    Ok(write_all(
+        s,
+        n,
+        limit,
+        vertices,
+        normals,
+        indices,
+        spans,
+        account,
+        log,
+        millimetres,
+    ))
 }
 
+#[tactic(auto, unfolding(mesh::specs::Operations::build))]
 pub fn build(
     s: &[u8],
     vertices: &mut [f32],

@@ -1,23 +1,51 @@
 // The pass over the records of an accepted scene: each object is drawn from its record behind those
 // before it, and its span and account are stored. Once all are written, their vertices are stored in
 // millimetres too.
-ghost use Rattle.std.specs.Prelude.{◌≡◌};
-ghost use Rattle.scene.specs.declared.scenes.Checked.TheVariants.{Accepted};
+ghost use Rattle.std.specs.Prelude.{◌≡◌, Ok};
 ghost use Rattle.scene.specs.Scene.{scene};
 ghost use Rattle.scene.specs.Contract.Answers.{checked_of};
+ghost use Rattle.scene.specs.Contract.Headers.{shape_of};
+ghost use Rattle.shape.specs.Contract.Drawn.{CanDraw, DrewObject};
 ghost use Rattle.mesh.specs.PerBuffer.{lent};
 ghost use Rattle.mesh.specs.Operations.{counts_of, build_scene};
-ghost use Rattle.mesh_answer.specs.declared.Answered.TheVariants.{Counts};
 ghost use Rattle.mesh_answer.specs.Answers.{Builds};
 ghost use Rattle.mesh_progress.specs.Contract.Pass.{drawn_entering, drawn_leaving, beginning, CanAdd, AddedObject, CanAddAll, AddedScene};
 ghost use Rattle.mesh_progress.specs.Contract.Wrote.{WroteScene};
-ghost use Rattle.mesh_build.specs.declared.Plan.TheVariants.{Write};
 ghost use Rattle.mesh_build.specs.Contract.Plan.{PlanHolds};
 
+use face::{Canvas, Tally};
 use mesh_answer::Counted;
 use mesh_progress::records::{put_account, put_span};
 use mesh_progress::{BEGINNING, Progress, advance, count_numbers, starts_in};
 use millimetre::fill;
+use scene::headers::Body;
+use shape::Drawn;
+
+// The object whose record's body is at i, drawn from the start of the lent slices.
+fn draw_object(
+    s: &[u8],
+    i: usize,
+    body: Body,
+    limit: f32,
+    before: u32,
+    vertices: &mut [f32],
+    normals: &mut [f32],
+    indices: &mut [u32],
+    log: &mut [u32],
+) -> Drawn
+    requires { CanDraw s.now i body before }
+    ensures { DrewObject limit (shape_of s.now i body) before vertices.old normals.old indices.old log.old result vertices.new normals.new indices.new log.new }
+{
+    let mut canvas = Canvas {
+        limit,
+        before,
+        tally: Tally::NOTHING,
+        vertices,
+        normals,
+        indices,
+    };
+    shape_draw::draw(&mut canvas, s, i, body, log)
+}
 
 // The object of the next record, drawn into the tails of the buffers.
 fn object_at(
@@ -41,7 +69,7 @@ fn object_at(
     let n = at.normals;
     let k = at.indices;
     let e = at.log;
-    let d = shape_draw::draw(
+    let d = draw_object(
         s,
         p.at + 5,
         body,
@@ -71,19 +99,11 @@ pub fn write_behind(
     account: &mut [u32],
     log: &mut [u32],
 ) -> Progress
-    requires { (Accepted n ≡ checked_of (scene s.now)) × CanAddAll limit s.now from }
+    requires { (Ok n ≡ checked_of (scene s.now)) × CanAddAll limit s.now from }
     ensures { AddedScene limit s.now from result (drawn_entering vs ns is spans account log) (drawn_leaving vs ns is spans account log) }
 {
-    let end = from.objects + n;
-    let mut p = Progress {
-        at: 0,
-        objects: from.objects,
-        vertices: from.vertices,
-        kept: from.kept,
-        spans: from.spans,
-        entries: from.entries,
-    };
-    while p.objects < end {
+    let mut p = Progress { at: 0, ..from };
+    for _ in 0..n {
         p = object_at(s, limit, p, vs, ns, is, spans, account, log);
     }
     p
@@ -101,7 +121,7 @@ pub fn write_objects(
     account: &mut [u32],
     log: &mut [u32],
 ) -> Counted
-    requires { (Accepted n ≡ checked_of (scene s.now)) × CanAddAll limit s.now beginning }
+    requires { (Ok n ≡ checked_of (scene s.now)) × CanAddAll limit s.now beginning }
     ensures { WroteScene limit s.now result (drawn_entering vs ns is spans account log) (drawn_leaving vs ns is spans account log) }
 {
     count_numbers(write_behind(s, n, limit, BEGINNING, vs, ns, is, spans, account, log))
@@ -121,8 +141,8 @@ pub fn write_all(
     millimetres: &mut [i64],
 ) -> Counted
     requires { PlanHolds limit s.now
-        (counts_of (lent vertices.old normals.old indices.old spans.old account.old log.old millimetres.old)) (Write n) }
-    ensures { Builds (build_scene limit (scene s.now)) (Counts result) vertices normals indices spans account log millimetres }
+        (counts_of (lent vertices.old normals.old indices.old spans.old account.old log.old millimetres.old)) (Ok n) }
+    ensures { Builds (build_scene limit (scene s.now)) (Ok result) vertices normals indices spans account log millimetres }
 {
     let c = write_objects(s, n, limit, vertices, normals, indices, spans, account, log);
     let v = c.vertices as usize;

@@ -11,7 +11,7 @@ ghost use Rattle.mesh.specs.Operations.{counts_of, measure, build};
 ghost use Rattle.mesh_answer.specs.Answers.{answer_of, judged_with, build_and_validate};
 ghost use Rattle.mesh.specs.Demand3.{LongEnough, prefixes, Demand3Of};
 
-use mesh_answer::JudgedBuild;
+use mesh_answer::{JudgedBuild, mesh_lengths};
 use mesh_build::build;
 
 pub fn build_and_validate(
@@ -41,7 +41,7 @@ pub fn build_and_validate(
         log,
         millimetres,
     );
-    let m = answer.mesh_lengths();
+    let m = mesh_lengths(answer);
     let v = m.vertices;
     let i = m.indices;
     let validation = validate_mesh::validate(&vertices[..v], &indices[..i]);

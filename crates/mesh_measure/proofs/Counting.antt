@@ -4,8 +4,8 @@ use mathlib.Core.List.{List}
 use Prim.Native.Nat.{ℕ}
 use lib.Ieee.{Float}
 use Rattle.float.specs.Number.{min_area}
-use Rattle.refusal.specs.declared.Refusal.{Refusal}
-use Rattle.scene.specs.declared.scenes.Checked.TheVariants.{Refused as CheckedRefused, Accepted}
+use Rattle.std.specs.Prelude.{Ok, Err}
+use Rattle.refusal.specs.declared.Refused.{Refused}
 use Rattle.scene.specs.Scene.{Scene, refused, accepted, scene}
 use Rattle.scene.specs.Contract.Answers.{checked_of, objects_of}
 use Rattle.scene.proofs.Walk.{checked_accepted, checked_refused}
@@ -23,11 +23,11 @@ use Rattle.mesh_bound_scene.proofs.Counts.{SumOf, objects_count}
 use Rattle.mesh_measure.specs.Contract.Counted.{counted_scene}
 
 module _ (limit : Float) (s : List ℕ) (counting : Counting) where
-  pub counted_refused : (f : Refusal) (object : ℕ) → CheckedRefused f object ≡ checked_of (scene s) → refused_with f object ≡ counted_scene counting limit (scene s)
+  pub counted_refused : (r : Refused) → Err r ≡ checked_of (scene s) → refused_with r.refusal r.object ≡ counted_scene counting limit (scene s)
   unfolding counted_scene
-  counted_refused f object h = sym (ap (counted_scene counting limit) (checked_refused (scene s) f object h))
+  counted_refused r h = sym (ap (counted_scene counting limit) (checked_refused (scene s) r h))
 
-  pub counted_accepted : (n : ℕ) {m : Most} (c : Counted) → Accepted n ≡ checked_of (scene s) → SumOf limit s All counting m → counts_from c ≡ numbers_of m n
+  pub counted_accepted : (n : ℕ) {m : Most} (c : Counted) → Ok n ≡ checked_of (scene s) → SumOf limit s All counting m → counts_from c ≡ numbers_of m n
       → accepts c ≡ counted_scene counting limit (scene s)
   unfolding counted_scene
   counted_accepted n c h p k =

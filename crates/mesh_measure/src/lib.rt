@@ -17,19 +17,14 @@ use float::MIN_AREA;
 use mesh_answer::Answered;
 use mesh_bound::{Counting, Group};
 use mesh_bound_scene::bound_of_all;
-use scene::scenes::Checked;
 
 // What the objects take in each buffer at a limit below which a triangle is thin: measured, or the most that they can take.
 fn count_scene(s: &[u8], limit: f32, counting: Counting) -> Answered
     ensures { answer_of result ≡ counted_scene counting limit (scene s.now) }
 {
-    match scene_check::check_scene(s) {
-        Checked::Refused(f, object) => Answered::Refused(f, object),
-        Checked::Accepted(n) => {
-            let m = bound_of_all(s, n, limit, Group::All, counting);
-            Answered::Counts(bound_counts(m, n))
-        }
-    }
+    let n = scene_check::check_scene(s)?;
+    let m = bound_of_all(s, n, limit, Group::All, counting);
+    Ok(bound_counts(m, n))
 }
 
 pub fn measure(s: &[u8]) -> Answered

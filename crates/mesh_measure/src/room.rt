@@ -7,12 +7,12 @@ ghost use Rattle.mesh_answer.specs.Contract.Answers.{lengths_from};
 ghost use Rattle.mesh_bound.specs.Most.{numbers_of};
 ghost use Rattle.mesh_bound.specs.Contract.Groups.{FewOfBoth};
 
-use mesh::Room;
 use mesh_answer::{Counted, Lengths, numbers_for};
 use mesh_bound::Most;
 use refusal::Refusal;
 
 // The numbers that n objects take in each buffer, by what they come to.
+#[tactic(auto, using(mesh_bound::proofs::Few::few_fit))]
 pub fn bound_counts(m: Most, n: u32) -> Counted
     requires { FewOfBoth m × (n ≤ most_objects) }
     ensures { counts_from result ≡ numbers_of m n }
@@ -27,21 +27,22 @@ fn short(has: usize, n: u32) -> bool
     has < n as usize
 }
 
-// Whether buffers of these lengths have room.
-pub fn room(has: Lengths, c: Counted) -> Room
+// Whether buffers of these lengths have room, or by which row the first that has none is refused.
+#[tactic(auto, unfolding(mesh::specs::Operations::too_short))]
+pub fn room(has: Lengths, c: Counted) -> Result<(), Refusal>
     ensures { result ≡ too_short (lengths_from has) (counts_from c) }
 {
     if short(has.vertices, c.vertices) | short(has.normals, c.normals) {
-        return Room::Short(Refusal::ShortVertices);
+        return Err(Refusal::ShortVertices);
     }
     if short(has.indices, c.indices) {
-        return Room::Short(Refusal::ShortIndices);
+        return Err(Refusal::ShortIndices);
     }
     if short(has.spans, c.spans) | short(has.account, c.account) | short(has.log, c.log) {
-        return Room::Short(Refusal::ShortRecords);
+        return Err(Refusal::ShortRecords);
     }
     if short(has.millimetres, c.millimetres) {
-        return Room::Short(Refusal::ShortMillimetres);
+        return Err(Refusal::ShortMillimetres);
     }
-    Room::Enough
+    Ok(())
 }

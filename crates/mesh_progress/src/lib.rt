@@ -44,27 +44,13 @@ pub struct Starts {
     pub log: usize,
 }
 
-fn clamp(len: usize, at: usize) -> usize
-    ensures { (result ≡ clamped len at) × (result ≤ len) }
+// Where thing number n starts, of so many numbers each, or the buffer's end where that is past it.
+#[tactic(auto, unfolding(crate::specs::Contract::Pass::clamped))]
+fn start_of(len: usize, width: usize, n: u32) -> usize
+    requires { width ≤ entry_width }
+    ensures { (result ≡ clamped len (width * n)) × (result ≤ len) }
 {
-    if at <= len {
-        return at;
-    }
-    len
-}
-
-// Where vertex or triangle n starts.
-fn triple_start(len: usize, n: u32) -> usize
-    ensures { (result ≡ clamped len (3 * n)) × (result ≤ len) }
-{
-    clamp(len, 3 * (n as usize))
-}
-
-// Where entry n of the log starts.
-fn entry_start(len: usize, n: u32) -> usize
-    ensures { (result ≡ clamped len (entry_width * n)) × (result ≤ len) }
-{
-    clamp(len, ENTRY_WIDTH * (n as usize))
+    len.min(width * (n as usize))
 }
 
 // Where the next object starts in buffers of these lengths.
@@ -72,20 +58,17 @@ pub fn starts_in(p: Progress, vertices: usize, normals: usize, indices: usize, l
     ensures { StartsIn vertices normals indices log p result }
 {
     Starts {
-        vertices: triple_start(vertices, p.vertices),
-        normals: triple_start(normals, p.vertices),
-        indices: triple_start(indices, p.kept),
-        log: entry_start(log, p.entries),
+        vertices: start_of(vertices, 3, p.vertices),
+        normals: start_of(normals, 3, p.vertices),
+        indices: start_of(indices, 3, p.kept),
+        log: start_of(log, ENTRY_WIDTH, p.entries),
     }
 }
 
 fn spans_more(kept: u32) -> u32
     ensures { (result ≡ spans_more kept) × (result ≤ 1) }
 {
-    if kept == 0 {
-        return 0;
-    }
-    1
+    if kept == 0 { 0 } else { 1 }
 }
 
 // Behind a record of so many bytes.

@@ -5,7 +5,7 @@ ghost use Rattle.mesh.specs.Mesh.{span_width, account_width, span_numbers};
 ghost use Rattle.mesh_progress.specs.Contract.Pass.{span_by, came_to, account_by};
 
 use crate::Progress;
-use buffer::numbers::{put_four, put_number};
+use buffer::{put, put_four};
 use face::Tally;
 use mesh::{ACCOUNT_WIDTH, SPAN_WIDTH};
 use shape::Drawn;
@@ -27,7 +27,7 @@ pub fn put_span(id: u32, p: Progress, t: Tally, spans: &mut [u32])
         p.vertices + t.vertices,
         3 * p.kept,
     );
-    put_number(spans, at + 4, 3 * (p.kept + t.kept));
+    put(spans, at + 4, 3 * (p.kept + t.kept));
 }
 
 // The account of object number n.

@@ -27,10 +27,7 @@ pub fn fill(coordinates: &[f32], list: &mut [i64])
     requires each { Each InReach coordinates.now }
     ensures { list.new ≡ over (map millimetres coordinates.now) list.old }
 {
-    let mut i = 0;
-    while i < coordinates.len() {
-        let n = millimetres(coordinates[i]);
-        list[i] = n;
-        i += 1;
+    for (i, x) in coordinates.iter().enumerate() {
+        list[i] = millimetres(*x);
     }
 }

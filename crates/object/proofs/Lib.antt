@@ -1,3 +1,4 @@
 pub mod Computes
+pub mod Equal
 pub mod Near
 pub mod Known

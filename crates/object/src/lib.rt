@@ -10,7 +10,7 @@ pub const MOST_HOLES: usize = 32;
 pub const MOST_CORNERS: usize = 512;
 
 // One corner of an outline or one edge of a section.
-#[derive(Clone, Copy)]
+#[derive(Clone, Copy, PartialEq)]
 pub struct Corner {
     pub base: Point,
     pub top: Point,

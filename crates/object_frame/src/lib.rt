@@ -9,7 +9,7 @@ use coords_vector::Vector;
 use object::Orientation;
 
 // An offset in the solid's own frame, turned into the network's: `orient`, in f64, by the scene's
-// sines and cosines.
+// sines and cosines. u, v and z are no Vector, which lies along the network's axes.
 pub fn frame(turn: Orientation, u: f32, v: f32, z: f32) -> Vector
     ensures { result ≡ frame turn u v z }
 {

@@ -14,14 +14,14 @@ use validate::Judgement;
 pub extern "C" fn object_mesh_measure(scene: &[u8]) -> Answer
     ensures { answer_from result ≡ measure scene.now }
 {
-    mesh_measure::measure(scene).numbers()
+    Answer::from(mesh_measure::measure(scene))
 }
 
 #[unsafe(no_mangle)]
 pub extern "C" fn object_mesh_bound(scene: &[u8]) -> Answer
     ensures { answer_from result ≡ bound scene.now }
 {
-    mesh_measure::bound(scene).numbers()
+    Answer::from(mesh_measure::bound(scene))
 }
 
 #[unsafe(no_mangle)]
@@ -39,7 +39,7 @@ pub extern "C" fn object_mesh_build(
     ensures written { leaving vertices normals indices spans account log millimetres
         ≡ (build scene.now (entering vertices normals indices spans account log millimetres)).buffers }
 {
-    mesh_build::build(
+    Answer::from(mesh_build::build(
         scene,
         vertices,
         normals,
@@ -48,13 +48,12 @@ pub extern "C" fn object_mesh_build(
         account,
         log,
         millimetres,
-    )
-    .numbers()
+    ))
 }
 
 #[unsafe(no_mangle)]
 pub extern "C" fn object_mesh_validate(vertices: &[f32], indices: &[u32]) -> Judgement
     ensures { result ≡ validation_numbers (validate vertices.now indices.now) }
 {
-    validate_mesh::validate(vertices, indices).numbers()
+    Judgement::from(validate_mesh::validate(vertices, indices))
 }

@@ -1,8 +1,6 @@
--- Document 01, section 8: the lines of a quote, by their numbers. Definitions only.
-use Rattle.std.specs.Prelude.{ℕ, Bool, true, false, cond, List, ◌++◌}
-use Rattle.validate.specs.declared.Validation.{Validation}
-use Rattle.validate.specs.declared.Validation.TheVariants.{Judged, Refused}
-use Rattle.validate.specs.declared.Verdict.TheVariants.{Ok, Empty, NonFiniteVertex, IndexOutOfRange, DegenerateTriangle}
+-- The lines of a quote, by their numbers. Definitions only.
+use Rattle.std.specs.Prelude.{ℕ, Bool, true, false, cond, List, ◌++◌, Ok, Err}
+use Rattle.validate.specs.Verdict.{Validation}
 use Rattle.quote_lines.specs.Words.{ascii, field}
 
 -- a refusal: only its number
@@ -19,12 +17,9 @@ counts_line vertices indices spans = field "mesh " vertices ++ field " vertices 
 
 -- the verdict: ok or empty, since a built mesh has no other (`verdict_words` of quote_text/proofs/Verdicts)
 abbrev pub is_ok : Validation → Bool
-is_ok (Judged Ok) = true
-is_ok (Judged Empty) = false
-is_ok (Judged (NonFiniteVertex i)) = false
-is_ok (Judged (IndexOutOfRange t i n)) = false
-is_ok (Judged (DegenerateTriangle t)) = false
-is_ok (Refused f) = false
+is_ok (Ok (Ok u)) = true
+is_ok (Ok (Err e)) = false
+is_ok (Err f) = false
 
 unfoldable pub verdict_line : Bool → List ℕ
 verdict_line ok = cond ok (ascii "verdict ok\n") (ascii "verdict empty\n")

@@ -15,24 +15,26 @@ use Rattle.scene.specs.Contract.Answers.{objects_of}
 use Rattle.scene.specs.Contract.Headers.{header_at, object_of}
 use Rattle.scene.proofs.Walk.{Walking, walk_object, walk_next, walk_body, walk_inside, AcceptedAs, accepted_scene, trailer_inside}
 use Rattle.mesh.specs.Mesh.{account_of, accounts_of, account_record, account_numbers}
-use Rattle.decimal.specs.Contract.Texts.{Wrote}
+use Rattle.quote_lines.specs.declared.Writer.{Writer}
+use Rattle.quote_lines.specs.Contract.Writers.{Writes}
 use Rattle.decimal.proofs.Texts.{Writing, writing_start, writing_next, writing_end, wrote_as}
 use Rattle.quote_lines.specs.Lines.{account_line}
 use Rattle.quote_text.specs.Quote.{object_line}
 use Rattle.quote_objects.specs.Contract.Accounts.{Accounts, Priced}
 
 -- k lines are written, and the next record is at place `at`
-pub record Lines (s account : List ℕ) (n : ℕ) (old text : List ℕ) (next at k : ℕ) : Type 0 where
+pub record Lines (s account : List ℕ) (n : ℕ) (old new : Writer) (at k : ℕ) : Type 0 where
   pub known : AcceptedAs s n (objects_of (scene s))
   pub walking : Walking s (trailer s n) n (objects_of (scene s)) k at
   pub count : k ≤ n
   pub place : at ≤ trailer s n
   pub rest : List ℕ
   pub numbers : drop (4 * k) account ≡ account_numbers (accounts_of min_area (drop k (objects_of (scene s)))) ++ rest
-  pub writing : Writing old 0 (join object_line (objects_of (scene s))) text next (join object_line (drop k (objects_of (scene s))))
-  pub near : next ≤ 69 * k
+  pub writing : Writing old.text.now old.at (join object_line (objects_of (scene s))) new.text.now new.at (join object_line (drop k (objects_of (scene s))))
+  pub loan : new.text.ghost_name ≡ old.text.ghost_name
+  pub near : new.at ≤ old.at + 69 * k
 
-pub lines_start : {s account : List ℕ} {n : ℕ} (old : List ℕ) → Priced s account n → Lines s account n old old 0 0 0
+pub lines_start : {s account : List ℕ} {n : ℕ} (old : Writer) → Priced s account n → Lines s account n old old 0 0
 lines_start {s} {account} {n} old p =
     let os = objects_of (scene s) in
     let a = accepted_scene s os p.is in
@@ -44,11 +46,12 @@ lines_start {s} {account} {n} old p =
       place = zero-le;
       rest = p.account.rest;
       numbers = p.account.begins;
-      writing = writing_start old 0 (join object_line os);
-      near = zero-le;
+      writing = writing_start old.text.now old.at (join object_line os);
+      loan = refl;
+      near = omega arith;
     }
 
-module _ {s account : List ℕ} {n : ℕ} {old text : List ℕ} {next at k : ℕ} (w : Lines s account n old text next at k) where
+module _ {s account : List ℕ} {n : ℕ} {old new : Writer} {at k : ℕ} (w : Lines s account n old new at k) where
   abbrev os : List Object
   os = objects_of (scene s)
 
@@ -91,8 +94,8 @@ module _ {s account : List ℕ} {n : ℕ} {old text : List ℕ} {next at k : ℕ
           let third = number_here 2 in
           λ i. account_line (e i).id (first i) (second i) (third i)
 
-      pub lines_next : {text' : List ℕ} {next' : ℕ} → Wrote text next (account_line h.id (get_or account (4 * k) 0) (get_or account (4 * k + 1) 0) (get_or account (4 * k + 2) 0)) text' next' × (next' ≤ next + 69)
-          → Lines s account n old text' next' (at + h.size) (k + 1)
+      pub lines_next : {new' : Writer} → Writes new (account_line h.id (get_or account (4 * k) 0) (get_or account (4 * k + 1) 0) (get_or account (4 * k + 2) 0)) new' × (new'.at ≤ new.at + 69)
+          → Lines s account n old new' (at + h.size) (k + 1)
       unfolding join
       lines_next v =
           let size = ap (λ (x : Header). at + x.size) e in
@@ -108,15 +111,16 @@ module _ {s account : List ℕ} {n : ℕ} {old text : List ℕ} {next at k : ℕ
             numbers = ap (λ (i : ℕ). drop i account) four ∙ sym (drop-drop 4 (4 * k) account) ∙ ap (drop 4) record_here;
             writing =
                 writing_next (object_line here) (join object_line (drop (k + 1) os)) (ap (join object_line) (walk_object w.walking l)) w.writing
-                (wrote_as (sym line_is) v.0);
+                (wrote_as (sym line_is) v.0.wrote);
+            loan = v.0.loan ∙ w.loan;
             near = omega arith;
           }
 
-  pub lines_end : n ≤ k → Wrote old 0 (join object_line os) text next × (next ≤ 69 * n)
+  pub lines_end : n ≤ k → Writes old (join object_line os) new × (new.at ≤ old.at + 69 * n)
   unfolding join
   lines_end h =
       let size = w.known.size in
       let count = w.count in
       let near = w.near in
       let all : length os ≤ k = omega arith in
-      (writing_end (ap (join object_line) (drop_of_length-le os all)) w.writing, omega arith)
+      (record { wrote = writing_end (ap (join object_line) (drop_of_length-le os all)) w.writing; loan = w.loan }, omega arith)

@@ -13,7 +13,7 @@ use Rattle.object.specs.Object.{Object}
 use Rattle.refusal.specs.declared.Refusal.{Refusal}
 use Rattle.refusal.specs.Rows.{number_of}
 use Rattle.scene.specs.Scene.{Scene, refused, accepted, scene}
-use Rattle.validate.specs.declared.Validation.{Validation}
+use Rattle.validate.specs.Verdict.{Validation}
 use Rattle.validate.specs.Validate.{validate, validate_at, verdict}
 use Rattle.mesh.specs.Mesh.{Mesh, mesh_of, accounts_of, account_numbers}
 use Rattle.mesh.specs.PerBuffer.{Counts, Buffers, lent}

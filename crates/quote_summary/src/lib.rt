@@ -63,5 +63,5 @@ pub fn sum_up(s: &[u8], account: &mut Account) -> Summary
     );
     let answer = r.answer;
     let validation = r.validation;
-    summary_of(answer.numbers(), validation)
+    summary_of(Answer::from(answer), validation)
 }

@@ -10,8 +10,8 @@ use Rattle.coords.proofs.Turned.{min_above}
 use Rattle.object.specs.Object.{Object}
 use Rattle.scene.specs.Scene.{scene, accepted}
 use Rattle.scene.proofs.Accepted.{accepted_near}
-use Rattle.validate.specs.declared.Validation.TheVariants.{Judged}
-use Rattle.validate.specs.declared.Verdict.TheVariants.{Ok, Empty}
+use Rattle.std.specs.Prelude.{Ok, Err}
+use Rattle.validate.specs.declared.MeshError.TheVariants.{Empty}
 use Rattle.validate.specs.Validate.{validate}
 use Rattle.mesh.specs.Mesh.{kept_by, mesh_of}
 use Rattle.mesh.specs.Operations.{output}
@@ -23,11 +23,11 @@ use Rattle.quote_text.specs.Quote.{validation}
 abbrev kept : List Object → ℕ
 kept os = sum_of (λ (o : Object). kept_by min_area o.shape) os
 
-pub verdict_words : (s : List ℕ) (os : List Object) → scene s ≡ accepted os → validation (mesh_of min_area os) ≡ Judged (cond (eqb (kept os) 0) Empty Ok)
+pub verdict_words : (s : List ℕ) (os : List Object) → scene s ≡ accepted os → validation (mesh_of min_area os) ≡ Ok (cond (eqb (kept os) 0) (Err Empty) (Ok tt))
 unfolding validation validate output
 verdict_words s os h = (written_holds min_area min_above os (accepted_near s os h)).verdict
 
-words : (b : Bool) → verdict_line (is_ok (Judged (cond b Empty Ok))) ≡ cond b (ascii "verdict empty\n") (ascii "verdict ok\n")
+words : (b : Bool) → verdict_line (is_ok (Ok (cond b (Err Empty) (Ok tt)))) ≡ cond b (ascii "verdict empty\n") (ascii "verdict ok\n")
 unfolding verdict_line
 words true = refl
 words false = refl

@@ -1,4 +1,4 @@
--- Document 01, section 8: the text that the quote program prints for the bytes that it reads. Definitions only.
+-- The text that the quote program prints for the bytes that it reads. Definitions only.
 use Rattle.std.specs.Prelude.{ℕ, cond, List, ◌++◌, length, ltb}
 use Rattle.lists.specs.Loops.{join}
 use Rattle.float.specs.Number.{min_area}
@@ -6,7 +6,7 @@ use Rattle.coords.specs.Buffers.{vertex_numbers}
 use Rattle.object.specs.Object.{Object}
 use Rattle.refusal.specs.Rows.{number_of}
 use Rattle.scene.specs.Scene.{Scene, refused, accepted, scene}
-use Rattle.validate.specs.declared.Validation.{Validation}
+use Rattle.validate.specs.Verdict.{Validation}
 use Rattle.validate.specs.Validate.{validate}
 use Rattle.mesh.specs.Mesh.{Mesh, account_of, mesh_of}
 use Rattle.quote_lines.specs.Lines.{refused_line, account_line, counts_line, is_ok, verdict_line}

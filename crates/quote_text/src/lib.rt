@@ -1,4 +1,4 @@
-// What the quote program prints, document 01, section 8, and the room that a scene's mesh, account and
+// What the quote program prints, and the room that a scene's mesh, account and
 // log take at most, by the scene's length: definitions and proofs only.
 
 #![tactic(auto)]

@@ -33,7 +33,7 @@ use Rattle.mesh.proofs.Comes.{sized_here, scene_comes}
 use Rattle.quote_text.proofs.Enough.{few_objects}
 use Rattle.quote_lines.specs.Words.{ascii, field}
 use Rattle.quote_lines.specs.Lines.{refused_line, account_line, counts_line, is_ok, verdict_line}
-use Rattle.quote_lines.proofs.Pieces.{ten_digits}
+use Rattle.quote_lines.proofs.Writers.{ten_digits}
 use Rattle.quote_text.specs.Quote.{object_line, mesh_line, validation, objects_text, scene_text, quote_text}
 
 -- ---- lines of numbers that fit u32

@@ -1,5 +1,4 @@
-// The refusals of every call: document 01, section 2, and the change requests of document 02. A further one is a variant here, a line in each
-// list of numbers, and a line of the law about them.
+// The refusals of every call, by number. A further one is a variant here, a line in `number_of`, and a line of the law about the numbers.
 
 #![tactic(auto)]
 
@@ -7,44 +6,40 @@ ghost use Rattle.std.specs.Prelude.{◌≡◌};
 ghost use Rattle.refusal.specs.Rows.{number_of};
 
 // Why a call is refused, by what is checked.
-#[derive(Clone, Copy)]
+#[derive(Clone, Copy, Debug, PartialEq, Eq)]
 pub enum Refusal {
     // The scene's length.
-    Length,
+    Length = 1,
     // The trailer.
-    Trailer,
+    Trailer = 2,
     // Where a record starts, or where the last one ends.
-    Start,
+    Start = 3,
     // The bytes next needed pass the trailer's start.
-    Past,
-    Kind,
-    Counts,
-    Numbers,
+    Past = 4,
+    Kind = 5,
+    Counts = 6,
+    Numbers = 7,
     // The vertices or the normals are shorter than measured.
-    ShortVertices,
-    ShortIndices,
+    ShortVertices = 8,
+    ShortIndices = 9,
     // The spans, the account or the log are shorter than measured.
-    ShortRecords,
+    ShortRecords = 10,
     // The vertices' numbers are no whole threes.
-    PartialVertex,
-    ShortMillimetres,
+    PartialVertex = 11,
+    ShortMillimetres = 12,
 }
 
-pub fn refusal_number(f: Refusal) -> u32
-    ensures { result ≡ number_of f }
-{
-    match f {
-        Refusal::Length => 1,
-        Refusal::Trailer => 2,
-        Refusal::Start => 3,
-        Refusal::Past => 4,
-        Refusal::Kind => 5,
-        Refusal::Counts => 6,
-        Refusal::Numbers => 7,
-        Refusal::ShortVertices => 8,
-        Refusal::ShortIndices => 9,
-        Refusal::ShortRecords => 10,
-        Refusal::PartialVertex => 11,
-        Refusal::ShortMillimetres => 12,
+impl From<Refusal> for u32 {
+    ghost from_gives = { λ f n. n ≡ number_of f };
+
+    fn from(f: Refusal) -> u32 {
+        f as u32
     }
+}
+
+// A refusal with the object that it names.
+#[derive(Clone, Copy, Debug, PartialEq, Eq)]
+pub struct Refused {
+    pub refusal: Refusal,
+    pub object: u32,
 }

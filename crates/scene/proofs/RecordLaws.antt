@@ -5,17 +5,18 @@ use native.Mathlib.Omega.{arith}
 use mathlib.Core.Bool.{Bool, true, false}
 use mathlib.Core.List.{List}
 use lib.ListN.{length, get_or}
+use Rattle.std.specs.Prelude.{Result}
 use lib.Dec.{ltb}
 use borrow.Author.Tests.{lt-ltb, le-ltb, ne_eqb}
 use Rattle.lists.specs.Loops.{list, sum_of}
 use Rattle.object.specs.declared.Section.{Section}
 use Rattle.object.specs.declared.Extent.{Extent}
 use Rattle.object.specs.Object.{Shape}
+use Rattle.refusal.specs.declared.Refusal.{Refusal}
 use Rattle.refusal.specs.declared.Refusal.TheVariants.{Past, Kind, Counts}
 use Rattle.scene_field.specs.Layout.{most_holes, most_corners, most_sections, position_bytes, orientation_bytes}
 use Rattle.scene_field.specs.Fields.{u16_at, u32_at, counts_at}
 use Rattle.scene.specs.Scene.{Record, bad, rest, solid_at, outline_corners, outline_of, outline_at, sweep_at, kind_at, record_at}
-use Rattle.scene.specs.declared.records.RecordEnd.{RecordEnd}
 use Rattle.scene.specs.Contract.Answers.{end_of}
 use Rattle.scene_field.proofs.Fields.{u16_past}
 
@@ -72,7 +73,7 @@ module _ (s : List ℕ) (e id : ℕ) (closed : Bool) (i outer holes : ℕ) (o : 
   unfolding outline_at
   listed m p = rw (← h, ← o, room e i 4 l f, le-ltb most_holes holes m, le-ltb e (i + 4 + 2 * holes) (omega arith))
 
-  pub outline_corners_lem : holes ≤ most_holes → 4 + 2 * holes ≤ e - i → {r : RecordEnd} → r ≡ end_of hollow → r ≡ end_of (outline_at s e id closed i)
+  pub outline_corners_lem : holes ≤ most_holes → 4 + 2 * holes ≤ e - i → {r : Result ℕ Refusal} → r ≡ end_of hollow → r ≡ end_of (outline_at s e id closed i)
   outline_corners_lem m p q = q ∙ ap end_of (listed m p)
 
 -- ---- a sweep
@@ -88,9 +89,10 @@ module _ (s : List ℕ) (e id : ℕ) (shape : List Section → Shape) (i n : ℕ
 
 -- ---- by the kind
 
-pub kind_other : (s : List ℕ) (e id i kind : ℕ) → (kind ≡ 0 → ⊥) → (kind ≡ 1 → ⊥) → (kind ≡ 2 → ⊥) → (kind ≡ 3 → ⊥) → (kind ≡ 4 → ⊥) → (kind ≡ 5 → ⊥) → (kind ≡ 6 → ⊥) → bad Kind ≡ kind_at s e id i kind
+kind_other : (s : List ℕ) (e id i kind : ℕ) → 6 < kind → bad Kind ≡ kind_at s e id i kind
 unfolding kind_at
-kind_other s e id i kind n0 n1 n2 n3 n4 n5 n6 = simp (ne_eqb kind 0 n0, ne_eqb kind 1 n1, ne_eqb kind 2 n2, ne_eqb kind 3 n3, ne_eqb kind 4 n4, ne_eqb kind 5 n5, ne_eqb kind 6 n6)
+kind_other s e id i kind h =
+    simp (ne_eqb kind 0 (λ q. omega arith), ne_eqb kind 1 (λ q. omega arith), ne_eqb kind 2 (λ q. omega arith), ne_eqb kind 3 (λ q. omega arith), ne_eqb kind 4 (λ q. omega arith), ne_eqb kind 5 (λ q. omega arith), ne_eqb kind 6 (λ q. omega arith))
 
 -- ---- a record
 
@@ -102,3 +104,6 @@ module _ (s : List ℕ) (e i : ℕ) where
   pub record_begun : i ≤ e → 5 ≤ e - i → kind_at s e (u32_at s (i + 1)) (i + 5) (get_or s i 0) ≡ record_at s e i
   unfolding record_at
   record_begun l h = rw (room e i 5 l h)
+
+  pub record_other : i ≤ e → 5 ≤ e - i → 6 < get_or s i 0 → bad Kind ≡ record_at s e i
+  record_other l h k = kind_other s e (u32_at s (i + 1)) (i + 5) (get_or s i 0) k ∙ record_begun l h

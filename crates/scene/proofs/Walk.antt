@@ -11,18 +11,19 @@ use mathlib.Core.List.{List, [], ◌∷◌}
 use lib.ListN.{length, get_or, drop}
 use lib.Seq.{drop-drop}
 use lib.Dec.{ltb, eqb}
+use Rattle.std.specs.Prelude.{Ok, Err}
 use borrow.Author.Tests.{eqb-true, ltb-false}
 use Rattle.object.specs.Object.{Object}
 use Rattle.refusal.specs.declared.Refusal.{Refusal}
 use Rattle.refusal.specs.declared.Refusal.TheVariants.{Length, Trailer, Start}
-use Rattle.scene.specs.declared.scenes.Checked.TheVariants.{Refused, Accepted}
+use Rattle.refusal.specs.declared.Refused.{Refused}
 use Rattle.scene_field.specs.Layout.{most_bytes, most_objects}
 use Rattle.scene_field.specs.Fields.{u32_at}
 use Rattle.scene.specs.Scene.{Record, bad, good, record_at, Scene, refused, accepted, prepend, record_then, records_from, trailer, count_at, scene}
 use Rattle.scene.specs.Contract.Answers.{checked_of, objects_of}
 use Rattle.scene.specs.Contract.Headers.{body_at, body_size, object_of, header_at, Limits}
 use Rattle.scene.proofs.Described.{Read, read}
-use Rattle.scene.proofs.SceneLaws.{one_less}
+use Rattle.scene.proofs.SceneLaws.{one_less, same_ok}
 
 unlike : {t : Scene} {r : Refusal} {object : ℕ} {os : List Object} → t ≡ refused r object → t ≡ accepted os → ⊥
 unlike p q = let z : ◌≡◌ {A = ℕ} 0 1 = cc in omega arith
@@ -153,23 +154,20 @@ accepted_scene s os h =
       begins = record { rest = ap (λ (m : ℕ). records_from s (trailer s n) m 0 0) (sub-zero n) ∙ q.2 };
     }
 
--- what `check_scene` says by `Accepted n`, and by `Refused`
-pub checked_accepted : (s : List ℕ) (n : ℕ) → Accepted n ≡ checked_of (scene s) → AcceptedAs s n (objects_of (scene s))
+-- what `check_scene` says by `Ok n`, and by `Err`
+pub checked_accepted : (s : List ℕ) (n : ℕ) → Ok n ≡ checked_of (scene s) → AcceptedAs s n (objects_of (scene s))
 checked_accepted s n h = go (scene s) refl h
   where
-    go : (t : Scene) → scene s ≡ t → Accepted n ≡ checked_of t → AcceptedAs s n (objects_of t)
+    go : (t : Scene) → scene s ≡ t → Ok n ≡ checked_of t → AcceptedAs s n (objects_of t)
     go (refused r object) q p = let z : ◌≡◌ {A = ℕ} 0 1 = cc in absurd (contra z)
       where
         contra : ◌≡◌ {A = ℕ} 0 1 → ⊥
         contra z = omega arith
     go (accepted os) q p =
         let a = accepted_scene s os q in
-        let m : count_at s ≡ n = sym a.size ∙ sym (same p) in
+        let m : count_at s ≡ n = sym a.size ∙ sym (same_ok p) in
         subst (λ (j : ℕ). AcceptedAs s j os) m a
-      where
-        same : {a b : ℕ} → Accepted a ≡ Accepted b → a ≡ b
-        same p = cc
 
-pub checked_refused : (t : Scene) (r : Refusal) (object : ℕ) → Refused r object ≡ checked_of t → t ≡ refused r object
-checked_refused (refused a b) r object h = cc
-checked_refused (accepted os) r object h = cc
+pub checked_refused : (t : Scene) (r : Refused) → Err r ≡ checked_of t → t ≡ refused r.refusal r.object
+checked_refused (refused a b) r h = cc
+checked_refused (accepted os) r h = cc

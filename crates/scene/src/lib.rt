@@ -4,6 +4,5 @@
 #![tactic(auto)]
 
 pub mod headers;
+pub mod kinds;
 pub mod layout;
-pub mod records;
-pub mod scenes;

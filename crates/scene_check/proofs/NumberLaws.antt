@@ -11,8 +11,9 @@ use Rattle.object.specs.declared.Section.{Section}
 use Rattle.object.specs.Object.{Shape, solid, outline, Object}
 use Rattle.scene_field.specs.Layout.{most_corners, most_sections, corner_bytes, section_bytes, position_bytes, orientation_bytes, orientation_from, sizes_from}
 use Rattle.scene_field.specs.Fields.{u16_at, point_at, orientation_at, corners_at, sections_at, holes_at, all32, all64}
+use Rattle.std.specs.Prelude.{Result}
+use Rattle.refusal.specs.declared.Refusal.{Refusal}
 use Rattle.refusal.specs.declared.Refusal.TheVariants.{Past, Numbers}
-use Rattle.scene.specs.declared.records.RecordEnd.{RecordEnd}
 use Rattle.scene.specs.Scene.{bad, good, rest, solid_at, outline_corners, sweep_at}
 use Rattle.scene.specs.Contract.Answers.{end_of}
 
@@ -43,7 +44,7 @@ module _ (s : List ℕ) (e id : ℕ) (closed : Bool) (c : ℕ) (counts : List �
   unfolding outline_corners
   listed = let z : 4 * (6 * n) ≡ corner_bytes * n = omega arith in rw (← total, le-ltb most_corners n few, z)
 
-  pub corners_rest : {r : RecordEnd} → ((o : Object) → r ≡ end_of (rest e i (4 * (6 * n)) (all32 s (6 * n) i) o)) → r ≡ end_of (outline_corners s e id closed c counts i)
+  pub corners_rest : {r : Result ℕ Refusal} → ((o : Object) → r ≡ end_of (rest e i (4 * (6 * n)) (all32 s (6 * n) i) o)) → r ≡ end_of (outline_corners s e id closed c counts i)
   corners_rest f = f _ ∙ ap end_of listed
 
 module _ (s : List ℕ) (e id : ℕ) (shape : List Section → Shape) (i n : ℕ) (is : n ≡ u16_at s i) (l : i ≤ e) (f : 2 ≤ e - i) (few : n ≤ most_sections) where
@@ -51,5 +52,5 @@ module _ (s : List ℕ) (e id : ℕ) (shape : List Section → Shape) (i n : ℕ
   unfolding sweep_at
   swept = let z : 4 * (12 * n) ≡ section_bytes * n = omega arith in rw (← is, le-ltb e (i + 2) (omega arith), le-ltb most_sections n few, z)
 
-  pub sweep_rest : {r : RecordEnd} → ((o : Object) → r ≡ end_of (rest e (i + 2) (4 * (12 * n)) (all32 s (12 * n) (i + 2)) o)) → r ≡ end_of (sweep_at s e id shape i)
+  pub sweep_rest : {r : Result ℕ Refusal} → ((o : Object) → r ≡ end_of (rest e (i + 2) (4 * (12 * n)) (all32 s (12 * n) (i + 2)) o)) → r ≡ end_of (sweep_at s e id shape i)
   sweep_rest g = g _ ∙ ap end_of swept

@@ -7,6 +7,9 @@ ghost use Rattle.scene_field.specs.Fields.{f64_at, all32, all64};
 
 use crate::{u32_in, u64_in};
 
+// A comparison each, of bits in place of floats so that the loop over them has no branch for NaN; a generic one needs a trait
+// for the two constants and is no plainer.
+
 // Magnitude at most 16,777,216; the patterns of infinities and NaNs are larger.
 fn is_allowed32(b: u32) -> bool
     ensures { result ≡ allowed32 (of_bits binary32 b) }
@@ -26,12 +29,10 @@ pub fn all_allowed32(s: &[u8], n: usize, i: usize) -> bool
     requires { i + 4 * n ≤ length s.now }
     ensures { result ≡ all32 s.now n i }
 {
-    let mut k = 0;
-    while k < n {
+    for k in 0..n {
         if !is_allowed32(u32_in(s, i + 4 * k)) {
             return false;
         }
-        k += 1;
     }
     true
 }

@@ -13,10 +13,8 @@ pub fn sum_counts(s: &[u8], n: u16, i: usize) -> usize
         return 0;
     }
     let mut sum = 0;
-    let mut k = 0;
-    while k < n {
+    for k in 0..n {
         sum += u16_at(s, i + 2 * (k as usize)) as usize;
-        k += 1;
     }
     sum
 }

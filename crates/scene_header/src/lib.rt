@@ -13,11 +13,14 @@ ghost use Rattle.scene.specs.Contract.Headers.{solid_from, outline_from, volume_
 use crate::hole_counts::sum_counts;
 use object::Extent;
 use scene::headers::{Body, Header, SolidAt};
+use scene::kinds::Kind;
 use scene::layout::{CORNER_BYTES, ORIENTATION_BYTES, POSITION_BYTES, SECTION_BYTES};
 use scene_field::{u16_at, u32_at};
 use scene_point::floats::f32_at;
 
 // ---- a solid
+
+// The two differ in the variant and in how many sizes they read: one generic function is no plainer.
 
 fn box_at(s: &[u8], i: usize) -> Extent
     requires { i + 8 < 2 ^ 64 }
@@ -64,6 +67,8 @@ fn solid_header(id: u32, i: usize, extent: Extent) -> Header
 
 // ---- an outline and a sweep, their counts at i
 
+// `closed` and `round` stay flags: `outline_from` and `body_at` hold them.
+
 fn outline_header(s: &[u8], id: u32, i: usize, closed: bool) -> Header
     requires { i + 4 < 2 ^ 64 }
     ensures { result ≡ header_of id (outline_from s.now i closed) }
@@ -104,13 +109,14 @@ pub fn header_at(s: &[u8], i: usize) -> Header
     let id = u32_at(s, i + 1);
     let body = i + 5;
     let sizes = body + (POSITION_BYTES + ORIENTATION_BYTES);
-    match s[i] {
-        0 => solid_header(id, body, Extent::Unsized),
-        1 => solid_header(id, body, box_at(s, sizes)),
-        2 => solid_header(id, body, cylinder_at(s, sizes)),
-        3 => outline_header(s, id, body, false),
-        4 => outline_header(s, id, body, true),
-        5 => sweep_header(s, id, body, false),
-        _ => sweep_header(s, id, body, true),
+    // What is no kind reads as the last one.
+    match Kind::try_from(s[i]).unwrap_or(Kind::RoundSweep) {
+        Kind::Unsized => solid_header(id, body, Extent::Unsized),
+        Kind::Box => solid_header(id, body, box_at(s, sizes)),
+        Kind::Cylinder => solid_header(id, body, cylinder_at(s, sizes)),
+        Kind::OpenOutline => outline_header(s, id, body, false),
+        Kind::ClosedOutline => outline_header(s, id, body, true),
+        Kind::Sweep => sweep_header(s, id, body, false),
+        Kind::RoundSweep => sweep_header(s, id, body, true),
     }
 }

@@ -11,6 +11,7 @@ use crate::floats::{f32_in, f64_in};
 use coords::Point;
 use object::{Corner, Orientation, Pair, Section};
 
+#[tactic(auto, unfolding(scene_field::specs::Fields::point_at))]
 pub fn point_at(s: &[u8], i: usize) -> Point
     requires { i + 12 ≤ length s.now }
     ensures { result ≡ point_at s.now i }
@@ -22,6 +23,7 @@ pub fn point_at(s: &[u8], i: usize) -> Point
     }
 }
 
+#[tactic(auto, unfolding(scene_field::specs::Fields::corner_at))]
 pub fn corner_at(s: &[u8], i: usize) -> Corner
     requires { i + 24 ≤ length s.now }
     ensures { result ≡ corner_at s.now i }
@@ -32,6 +34,7 @@ pub fn corner_at(s: &[u8], i: usize) -> Corner
     }
 }
 
+#[tactic(auto, unfolding(scene_field::specs::Fields::section_at))]
 pub fn section_at(s: &[u8], i: usize) -> Section
     requires { i + 48 ≤ length s.now }
     ensures { result ≡ section_at s.now i }
@@ -42,6 +45,7 @@ pub fn section_at(s: &[u8], i: usize) -> Section
     }
 }
 
+#[tactic(auto, unfolding(scene_field::specs::Fields::pair_at))]
 fn pair_at(s: &[u8], i: usize) -> Pair
     requires { i + 16 ≤ length s.now }
     ensures { result ≡ pair_at s.now i }
@@ -52,6 +56,7 @@ fn pair_at(s: &[u8], i: usize) -> Pair
     }
 }
 
+#[tactic(auto, unfolding(scene_field::specs::Fields::orientation_at))]
 pub fn orientation_at(s: &[u8], i: usize) -> Orientation
     requires { i + 48 ≤ length s.now }
     ensures { result ≡ orientation_at s.now i }

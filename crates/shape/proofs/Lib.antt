@@ -7,3 +7,4 @@ pub mod Flats
 pub mod Sizes
 pub mod Sized
 pub mod Stages
+pub mod Canvases

@@ -1,15 +1,16 @@
 -- The stages of a shape are its faces, each face of its stage's part; and stages drawn one behind the other. Assumes nothing.
 use mathlib.Core.Path.{◌≡◌, refl, sym, ◌∙◌, ap, ap₂}
-use mathlib.Core.Bool.{Bool, true, false, cond, ◌&&◌}
+use mathlib.Core.Bool.{Bool, true, false, ◌&&◌}
 use mathlib.Core.List.{List, [], ◌∷◌, ◌++◌, map, append_assoc}
-use Prim.Native.Nat.{ℕ, ◌+◌, ◌-◌}
-use lib.ListN.{length}
+use Prim.Native.Nat.{ℕ, suc, ◌+◌, ◌-◌}
+use native.Mathlib.Omega.{arith}
+use lib.ListN.{length, get_or}
 use lib.Ieee.{Float, lt, eq}
 use Rattle.lists.specs.Each.{Each}
-use Rattle.lists.specs.Loops.{list, join}
+use Rattle.lists.specs.Loops.{join}
 use Rattle.lists.proofs.Lists.{each_append, each_list, each_join, each_any}
 use Rattle.lists.proofs.Loops.{either}
-use Rattle.float.specs.Number.{zerof, onef}
+use Rattle.float.specs.Number.{zerof}
 use Rattle.coords.specs.declared.Point.{Point}
 use Rattle.coords_vector.specs.declared.Vector.{Vector}
 use Rattle.coords_vector.specs.Vectors.{zero_v, negate}
@@ -20,12 +21,12 @@ use Rattle.object.specs.declared.Extent.TheVariants.{Box, Cylinder, Unsized}
 use Rattle.object.specs.declared.Orientation.{Orientation}
 use Rattle.object.specs.Object.{Shape, solid, outline, sweep, round_sweep}
 use Rattle.face.specs.declared.Tally.{Tally}
-use Rattle.face.specs.Faces.{Triangle, Face, quad}
+use Rattle.face.specs.Faces.{Face, quad}
 use Rattle.face.specs.Contract.Drawing.{tally, Drawing, drawing, counted, drawn, Drew}
 use Rattle.face.proofs.Draws.{then, drew_none, drew_tally}
 use Rattle.lid_plane.specs.Plane.{about, lid_normal}
 use Rattle.shape.specs.Shapes.{Axis, box_face, box_sides, box, along_x, along_y, along_z, cylinder_side, end_face, cylinder_faces, cylinder, ring_at, solid_faces, wall, walls, outer_walls, hole_walls, all_corners, has_height, lid_faces, outline_faces, is_widthless_section, is_flat_section, pair_faces, pairs, cap, sweep_caps, sweep_faces, Ellipse, ellipse, tube_side, tube_faces, tube_caps, round_sweep_faces, faces_of}
-use Rattle.shape.specs.Contract.Stages.{PartRun, tallies_of, DrewStages, stage, side_stages, box_stages, four_stages, cylinder_stages, solid_stages, lid_face, floor_faces, lid_stages, outline_stages, sweep_stages, round_stages, stages_of}
+use Rattle.shape.specs.Contract.Stages.{PartRun, tallies_of, DrewStages, last_of, stage, side_stages, box_stages, cylinder_stages, solid_stages, lid_face, floor_faces, outline_stages, sweep_stages, round_stages, stages_of}
 
 -- ---- the faces
 
@@ -146,6 +147,19 @@ stages_parts (round_sweep ss) = (pairs_parts tube_faces tube_parts (map ellipse 
 
 -- ---- stages drawn one behind the other
 
+solid_six : (o : Point) (t : Orientation) (x : Extent) → length (solid_stages o t x) ≡ 6
+unfolding solid_stages box_stages side_stages cylinder_stages
+solid_six o t (Box l w h) = refl
+solid_six o t (Cylinder r h) = refl
+solid_six o t Unsized = refl
+
+six : (s : Shape) → length (stages_of s) ≡ 6
+unfolding stages_of outline_stages sweep_stages round_stages
+six (solid o t x) = solid_six o t x
+six (outline closed cs holes) = refl
+six (sweep ss) = refl
+six (round_sweep ss) = refl
+
 module _ (limit : Float) where
   counted_then : (before : ℕ) (fs gs : List Face) (t : Tally)
       → counted limit (before + (counted limit (before + t.vertices) fs t).vertices) gs (counted limit (before + t.vertices) fs t) ≡ counted limit (before + t.vertices) (fs ++ gs) t
@@ -183,9 +197,6 @@ module _ (limit : Float) where
         let e = drew_tally limit p in
         record { drew = then limit p q.drew; after = ap₂ (λ (u : Tally) (l : List Tally). u ∷ l) e (q.after ∙ ap (λ (u : Tally). tallies_of limit before u ss) e) }
 
-    pub stages_empty : {ss : List PartRun} {d d'' : Drawing} {ts : List Tally} (part : ℕ) → DrewStages limit ss before d d'' ts → DrewStages limit (stage part [] ∷ ss) before d d'' (d.tally ∷ ts)
-    stages_empty {ss} {d} part q = stages_first part (drew_none limit before d) q
-
     -- stages behind others
     pub stages_then : {ss rs : List PartRun} {d d' d'' : Drawing} {ts us : List Tally} → DrewStages limit ss before d d' ts → DrewStages limit rs before d' d'' us
         → DrewStages limit (ss ++ rs) before d d'' (ts ++ us)
@@ -194,22 +205,20 @@ module _ (limit : Float) where
       after = ap₂ ◌++◌ p.after (q.after ∙ ap (λ (u : Tally). tallies_of limit before u rs) (drew_tally limit p.drew)) ∙ sym (tallies_append before ss rs d.tally);
     }
 
-    -- nothing in any stage
-    pub stages_nothing : {d : Drawing} → DrewStages limit (four_stages [] [] [] []) before d d (d.tally ∷ d.tally ∷ d.tally ∷ d.tally ∷ d.tally ∷ d.tally ∷ [])
-    stages_nothing = stages_empty 1 (stages_empty 2 (stages_empty 3 (stages_empty 4 (stages_empty 5 (stages_empty 6 stages_none)))))
+  -- ---- the counts after the last stage
 
-    -- sides and caps
-    pub stages_capped : {sides caps : List Face} {d d₁ d₂ : Drawing} → Drew limit sides before d d₁ → Drew limit caps before d₁ d₂
-        → DrewStages limit (four_stages sides [] [] caps) before d d₂ (d₁.tally ∷ d₁.tally ∷ d₁.tally ∷ d₂.tally ∷ d₂.tally ∷ d₂.tally ∷ [])
-    stages_capped p q = stages_first 1 p (stages_empty 2 (stages_empty 3 (stages_first 4 q (stages_empty 5 (stages_empty 6 stages_none)))))
+  last_tally : (before : ℕ) (s : PartRun) (ss : List PartRun) (t x : Tally) → get_or (tallies_of limit before t (s ∷ ss)) (length ss) x ≡ counted limit (before + t.vertices) (join PartRun.faces (s ∷ ss)) t
+  unfolding tallies_of join
+  last_tally before s [] t x = ap (λ (fs : List Face). counted limit (before + t.vertices) fs t) (sym (append-nil s.faces))
+  last_tally before s (r ∷ rs) t x =
+      last_tally before r rs (counted limit (before + t.vertices) s.faces t) x ∙ counted_then before s.faces (join PartRun.faces (r ∷ rs)) t
 
-    -- walls, lid and floor
-    pub stages_lidded : {sides : List Face} (cs : List Corner) (lid : Vector) (ts : List Triangle) {d d₁ d₂ : Drawing} {a b : Tally}
-        → Drew limit sides before d d₁ → DrewStages limit (lid_stages cs lid ts) before d₁ d₂ (a ∷ b ∷ [])
-        → DrewStages limit (four_stages sides (lid_face cs lid ts ∷ []) (floor_faces cs lid ts) []) before d d₂ (d₁.tally ∷ a ∷ b ∷ d₂.tally ∷ d₂.tally ∷ d₂.tally ∷ [])
-    stages_lidded cs lid ts p q = stages_first 1 p (stages_then q (stages_empty 4 (stages_empty 5 (stages_empty 6 stages_none))))
+  -- of any stages; and of a shape's six
+  stages_end : {before : ℕ} {d d' : Drawing} {ts : List Tally} (ss : List PartRun) (n : ℕ) (x : Tally) → length ss ≡ suc n → DrewStages limit ss before d d' ts → get_or ts n x ≡ d'.tally
+  stages_end [] n x h p = absurd (omega arith)
+  stages_end {before} {d} (s ∷ ss) n x h p =
+      let k : n ≡ length ss = omega arith in
+      rw (k, p.after) (last_tally before s ss d.tally x ∙ sym (drew_tally limit p.drew))
 
-    -- walls alone
-    pub stages_walls : {sides : List Face} {d d₁ : Drawing} → Drew limit sides before d d₁
-        → DrewStages limit (four_stages sides [] [] []) before d d₁ (d₁.tally ∷ d₁.tally ∷ d₁.tally ∷ d₁.tally ∷ d₁.tally ∷ d₁.tally ∷ [])
-    stages_walls p = stages_first 1 p (stages_empty 2 (stages_empty 3 (stages_empty 4 (stages_empty 5 (stages_empty 6 stages_none)))))
+  pub stages_last : {before : ℕ} {d d' : Drawing} {ts : List Tally} (s : Shape) → DrewStages limit (stages_of s) before d d' ts → last_of ts ≡ d'.tally
+  stages_last s p = stages_end (stages_of s) 5 (tally 0 0 0) (six s) p

@@ -9,7 +9,8 @@ use face::Tally;
 pub type StageTallies = [Tally; 6];
 
 // What drawing one object came to: what was written and counted after each of its six stages, whose
-// parts are numbered from `first` on, its price and its log entries.
+// parts are numbered from `first` on, its price and its log entries. A part is a number, as the mesh's
+// spans and so the C interface have it.
 #[derive(Clone, Copy)]
 pub struct Drawn {
     pub first: u32,
@@ -17,10 +18,3 @@ pub struct Drawn {
     pub offered: u32,
     pub entries: u32,
 }
-
-// Nothing drawn.
-pub const NOTHING: Tally = Tally {
-    vertices: 0,
-    kept: 0,
-    thin: 0,
-};

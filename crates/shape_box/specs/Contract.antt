@@ -1,3 +1,2 @@
 -- What only serves contracts: no exported contract rests on it.
 pub mod Axes
-pub mod Quads

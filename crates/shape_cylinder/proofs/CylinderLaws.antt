@@ -19,12 +19,13 @@ use Rattle.angle_circle.proofs.Table.{Tables, cosine_at, sine_at}
 use Rattle.object.specs.declared.Orientation.{Orientation}
 use Rattle.object.specs.Object.{frame}
 use Rattle.face.specs.Faces.{fan, quad}
-use Rattle.face.specs.Contract.Drawing.{Drawing, Drew, Countable}
-use Rattle.face.specs.declared.Tally.{Tally}
-use Rattle.shape.specs.Shapes.{ring_point, ring_at, cylinder_side, end_face}
-use Rattle.shape.specs.Contract.Stages.{PartRun, cylinder_stages, DrewStages}
-use Rattle.shape.proofs.Stages.{stages_none, stages_first, stages_empty}
-use Rattle.shape.proofs.Sized.{Sized, sized_list, countable_left}
+use Rattle.face.specs.declared.Canvas.{Canvas}
+use Rattle.face.specs.Contract.Drawing.{Draws, DrawsFace, CountableOn}
+use Rattle.face.proofs.Canvases.{draws_part}
+use Rattle.shape.specs.Shapes.{ring_point, cylinder_side, end_face}
+use Rattle.shape.specs.Contract.Stages.{cylinder_stages, DrawsStages}
+use Rattle.shape.proofs.Canvases.{draws_left, drawn_none, drawn_first, drawn_empty}
+use Rattle.shape.proofs.Sized.{Sized, sized_list}
 
 -- a ring point and the direction of a side, by the tables of cosines and sines
 module _ {cos sin : List Float} (k : ℕ) (h : k < 16) where
@@ -44,40 +45,32 @@ unfolding end_face fan list sum_of
 end_sized ring out part h = record { points = omega arith; triangles = omega arith }
 
 -- the points of side k, read from both rings with any default
-pub side_drew : (limit : Float) (t : Orientation) (bottom top : List Point) (k : ℕ) (p : Point) (out : Vector) {before : ℕ} {d d' : Drawing} → k < 16 → length bottom ≡ 16 → length top ≡ 16
+pub side_drew : (t : Orientation) (bottom top : List Point) (k : ℕ) (p : Point) (out : Vector) {a b : Canvas} → k < 16 → length bottom ≡ 16 → length top ≡ 16
     → out ≡ frame t (cosine (side_angle k)) (sine (side_angle k)) zerof
-    → Drew limit (quad 1 (get_or bottom k p) (get_or bottom (next 16 k) p) (get_or top (next 16 k) p) (get_or top k p) out ∷ []) before d d'
-    → Drew limit (cylinder_side t bottom top k ∷ []) before d d'
+    → DrawsFace (λ part. quad part (get_or bottom k p) (get_or bottom (next 16 k) p) (get_or top (next 16 k) p) (get_or top k p) out) a b
+    → Draws (cylinder_side t bottom top k ∷ []) a b
 unfolding cylinder_side
-side_drew limit t bottom top k p out h b a e q =
-    rw (← get_d_any bottom k p origin (omega arith), ← get_d_any bottom (next 16 k) p origin (omega arith), ← get_d_any top (next 16 k) p origin (omega arith), ← get_d_any top k p origin (omega arith), ← e) q
+side_drew t bottom top k p out h b a e q =
+    rw (← get_d_any bottom k p origin (omega arith), ← get_d_any bottom (next 16 k) p origin (omega arith), ← get_d_any top (next 16 k) p origin (omega arith), ← get_d_any top k p origin (omega arith), ← e) (draws_part 1 q)
 
 -- how many more can be counted behind the sides, and then the top
-module _ (limit : Float) (t : Orientation) (bottom top : List Point) {before : ℕ} {d d₁ : Drawing} (countable : Countable before d.tally 96 60)
-    (sides : Drew limit (list (cylinder_side t bottom top) 16 0) before d d₁) where
-  pub top_countable : Countable before d₁.tally 32 28
-  top_countable = countable_left limit countable sides (sides_sized t bottom top 16) (lit≤ tt) (lit≤ tt)
+module _ (t : Orientation) (bottom top : List Point) {a b : Canvas} (countable : CountableOn a 96 60) (sides : Draws (list (cylinder_side t bottom top) 16 0) a b) where
+  pub top_countable : CountableOn b 32 28
+  top_countable = draws_left countable sides (sides_sized t bottom top 16) (lit≤ tt) (lit≤ tt)
 
-  pub floor_countable : (ring : List Point) (out : Vector) (part : ℕ) {d₂ : Drawing} → length ring ≡ 16 → Drew limit (end_face ring out part ∷ []) before d₁ d₂ → Countable before d₂.tally 16 14
-  floor_countable ring out part h q = countable_left limit top_countable q (end_sized ring out part h) (lit≤ tt) (lit≤ tt)
+  pub floor_countable : (ring : List Point) (out : Vector) {c : Canvas} → length ring ≡ 16 → DrawsFace (end_face ring out) b c → CountableOn c 16 14
+  floor_countable ring out h q = draws_left top_countable (draws_part 2 q) (end_sized ring out 2 h) (lit≤ tt) (lit≤ tt)
 
 -- a cylinder drawn part by part: the sides, the top, and the floor of one that has a height
-module _ (o : Point) (t : Orientation) (r h : Float) {limit : Float} {before : ℕ} {rings : List (List Point)} {up : Vector} {d d₁ d₂ : Drawing}
-    (both : rings ≡ ring_at o t r zerof ∷ ring_at o t r h ∷ []) (upward : up ≡ frame t zerof zerof onef)
-    (sides : Drew limit (list (cylinder_side t (get_or rings 0 []) (get_or rings 1 [])) 16 0) before d d₁) (top : Drew limit (end_face (get_or rings 1 []) up 2 ∷ []) before d₁ d₂) where
-  abbrev stages : List PartRun
-  stages = cylinder_stages t (ring_at o t r zerof) (ring_at o t r h) h
-
-  abbrev counts : Tally → List Tally
-  counts x = d₁.tally ∷ d₂.tally ∷ x ∷ x ∷ x ∷ x ∷ []
-
-  pub flat_cylinder : lt zerof h ≡ false → DrewStages limit stages before d d₂ (counts d₂.tally)
+module _ (t : Orientation) (h : Float) (bottom top : List Point) {up : Vector} {a b c : Canvas} (upward : up ≡ frame t zerof zerof onef)
+    (sides : Draws (list (cylinder_side t bottom top) 16 0) a b) (lid : DrawsFace (end_face top up) b c) where
+  pub flat_cylinder : lt zerof h ≡ false → DrawsStages (cylinder_stages t bottom top h) (b.tally ∷ c.tally ∷ c.tally ∷ c.tally ∷ c.tally ∷ c.tally ∷ []) a c
   unfolding cylinder_stages
-  flat_cylinder e = rw e (stages_first limit 1 (rw both at sides) (stages_first limit 2 (rw (both, upward) at top) (stages_empty limit 3 (stages_empty limit 4 (stages_empty limit 5 (stages_empty limit 6 (stages_none limit)))))))
+  flat_cylinder e = rw (e, ← upward) (drawn_first 1 sides (drawn_first 2 (draws_part 2 lid) (drawn_empty 3 (drawn_empty 4 (drawn_empty 5 (drawn_empty 6 drawn_none))))))
 
-  pub whole_cylinder : {down : Vector} {d₃ : Drawing} → lt zerof h ≡ true → down ≡ negate up → Drew limit (end_face (get_or rings 0 []) down 3 ∷ []) before d₂ d₃
-      → DrewStages limit stages before d d₃ (counts d₃.tally)
+  pub whole_cylinder : {down : Vector} {d : Canvas} → lt zerof h ≡ true → down ≡ negate up → DrawsFace (end_face bottom down) c d
+      → DrawsStages (cylinder_stages t bottom top h) (b.tally ∷ c.tally ∷ d.tally ∷ d.tally ∷ d.tally ∷ d.tally ∷ []) a d
   unfolding cylinder_stages
   whole_cylinder e turned floor =
-      rw e
-      (stages_first limit 1 (rw both at sides) (stages_first limit 2 (rw (both, upward) at top) (stages_first limit 3 (rw (both, turned, upward) at floor) (stages_empty limit 4 (stages_empty limit 5 (stages_empty limit 6 (stages_none limit)))))))
+      rw (e, ← upward, ← turned)
+      (drawn_first 1 sides (drawn_first 2 (draws_part 2 lid) (drawn_first 3 (draws_part 3 floor) (drawn_empty 4 (drawn_empty 5 (drawn_empty 6 drawn_none))))))

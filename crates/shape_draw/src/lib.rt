@@ -8,10 +8,10 @@ ghost use Rattle.scene.specs.Contract.Headers.{sections_shape, shape_of};
 ghost use Rattle.shape.specs.Contract.Drawn.{CanDraw, DrawsObject, DrawsUnlogged};
 ghost use Rattle.shape.specs.Contract.Stages.{first_of};
 
-use face::Tally;
+use face::{Canvas, Tally};
 use object::Extent;
 use scene::headers::Body;
-use shape::{Drawn, NOTHING};
+use shape::Drawn;
 use shape_outline::outline;
 use shape_price::solid::solid_price;
 use shape_price::sweep::{round_sweep_price, sweep_price};
@@ -20,22 +20,13 @@ use shape_solid::solid;
 use shape_sweep::sweep;
 
 // n sections at `at`, as a sweep or a round one: they have no log, so what is drawn holds of any.
-fn draw_sections(
-    s: &[u8],
-    at: usize,
-    round: bool,
-    n: usize,
-    limit: f32,
-    before: u32,
-    vs: &mut [f32],
-    ns: &mut [f32],
-    is: &mut [u32],
-) -> Drawn
-    requires { (at + section_bytes * n ≤ length s.now) × (n ≤ most_sections) × (3 * before < 2 ^ 32) }
-    ensures { DrawsUnlogged limit (sections_shape s.now at round n) before result vs ns is }
+fn draw_sections(canvas: &mut Canvas<'_>, s: &[u8], at: usize, round: bool, n: usize) -> Drawn
+    requires { (at + section_bytes * n ≤ length s.now) × (n ≤ most_sections) × (3 * canvas.old.before < 2 ^ 32) }
+    ensures { DrawsUnlogged (sections_shape s.now at round n) result canvas.old canvas.new }
 {
+    canvas.tally = Tally::NOTHING;
     if round {
-        let after = round_sweep(s, at, n, limit, before, NOTHING, vs, ns, is);
+        let after = round_sweep(canvas, s, at, n);
         return Drawn {
             first: 1,
             after,
@@ -43,7 +34,7 @@ fn draw_sections(
             entries: 0,
         };
     }
-    let after = sweep(s, at, n, limit, before, NOTHING, vs, ns, is);
+    let after = sweep(canvas, s, at, n);
     Drawn {
         first: 1,
         after,
@@ -63,32 +54,19 @@ fn first_part(extent: Extent) -> u32
     }
 }
 
-// The object whose record's body is at i, drawn from the start of the lent buffers; `before` vertices
-// lie before them.
-pub fn draw(
-    s: &[u8],
-    i: usize,
-    body: Body,
-    limit: f32,
-    before: u32,
-    vs: &mut [f32],
-    ns: &mut [f32],
-    is: &mut [u32],
-    log: &mut [u32],
-) -> Drawn
-    requires { CanDraw s.now i body before }
-    ensures { DrawsObject limit (shape_of s.now i body) before result vs ns is log }
+// The object whose record's body is at i, drawn from the start of the canvas, with its log.
+pub fn draw(canvas: &mut Canvas<'_>, s: &[u8], i: usize, body: Body, log: &mut [u32]) -> Drawn
+    requires { CanDraw s.now i body canvas.old.before }
+    ensures { DrawsObject (shape_of s.now i body) result canvas.old canvas.new log }
 {
     match body {
         Body::Solid(p) => {
-            let extent = p.extent;
-            let offered = solid_price(extent);
-            let first = first_part(extent);
-            let after = solid(s, p, limit, before, NOTHING, vs, ns, is);
+            canvas.tally = Tally::NOTHING;
+            let after = solid(canvas, s, p);
             Drawn {
-                first,
+                first: first_part(p.extent),
                 after,
-                offered,
+                offered: solid_price(p.extent),
                 entries: 0,
             }
         }
@@ -97,10 +75,9 @@ pub fn draw(
             outer,
             holes: h,
             corners: n,
-        } => { outline(s, i, closed, outer, h, n, limit, before, vs, ns, is, log) }
+        } => outline(canvas, s, i, closed, outer, h, n, log),
         Body::Sweep { round, sections } => {
-            let n = sections as usize;
-            draw_sections(s, i + 2, round, n, limit, before, vs, ns, is)
+            draw_sections(canvas, s, i + 2, round, sections as usize)
         }
     }
 }

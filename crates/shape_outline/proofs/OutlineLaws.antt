@@ -5,7 +5,6 @@ use Prim.Native.Nat.{ℕ, ◌+◌, ◌-◌, ◌*◌, ◌≤◌, ◌<◌, ◌^◌
 use native.Mathlib.Omega.{arith}
 use mathlib.Core.List.{List, [], ◌∷◌, ◌++◌, map}
 use lib.ListN.{length}
-use lib.Ieee.{Float}
 use Rattle.lists.specs.Loops.{join, sum_of}
 use Rattle.lists.proofs.Lists.{sum_append}
 use Rattle.coords_vector.specs.declared.Vector.{Vector}
@@ -17,16 +16,18 @@ use Rattle.scene.specs.Contract.Headers.{corner_count}
 use Rattle.scene.proofs.Parts.{corners_length, holes_size, corners_count}
 use Rattle.face.specs.declared.Tally.{Tally}
 use Rattle.face.specs.Faces.{Face}
-use Rattle.face.specs.Contract.Drawing.{Drawing, tally, drawing, Drew, Countable}
+use Rattle.face.specs.declared.Canvas.{Canvas}
+use Rattle.face.specs.Contract.Drawing.{drawing_on, Draws, CountableOn}
 use Rattle.face.proofs.Counts.{count}
-use Rattle.face.proofs.Draws.{drew_countable}
+use Rattle.face.proofs.Canvases.{draws_countable}
 use Rattle.lid_plane.specs.Plane.{lid_normal, about}
 use Rattle.lid.specs.Lid.{lid_price}
 use Rattle.lid.specs.Log.{log_numbers}
 use Rattle.lid.proofs.Facts.{total, lid_triangles}
 use Rattle.shape.specs.Shapes.{walls, outer_walls, hole_walls, all_corners, flat_of, outline_lid, has_height, log_of}
 use Rattle.shape.specs.Contract.Stages.{four_stages, lid_face, floor_faces, outline_stages, stages_of, DrewStages}
-use Rattle.shape.proofs.Stages.{stages_walls, stages_lidded}
+use Rattle.shape.proofs.Canvases.{drawn_walls, drawn_lidded}
+use Rattle.shape_outline.proofs.Cleared.{cleared}
 use Rattle.shape.specs.declared.Drawn.{Drawn}
 use Rattle.shape.specs.Contract.Drawn.{CanDraw, DrewObject}
 use Rattle.shape.specs.Price.{offered, outline_price}
@@ -49,21 +50,21 @@ pub few_edges : (closed : Bool) (n m : ℕ) → m ≡ cond closed n (n - 1) → 
 few_edges true n m e = omega arith
 few_edges false n m e = omega arith
 
-pub outer_drew : {limit : Float} {before : ℕ} {normal : Vector} {m : ℕ} {d d' : Drawing} (closed : Bool) (s : List ℕ) (n at : ℕ) (lid : Vector)
-    → normal ≡ cond closed (about (corners_at s n at) lid) zero_v → m ≡ cond closed n (n - 1) → Drew limit (walls (corners_at s n at) normal m) before d d'
-    → Drew limit (outer_walls closed (corners_at s n at) lid) before d d'
+pub outer_drew : {normal : Vector} {m : ℕ} {c d : Canvas} (closed : Bool) (s : List ℕ) (n at : ℕ) (lid : Vector)
+    → normal ≡ cond closed (about (corners_at s n at) lid) zero_v → m ≡ cond closed n (n - 1) → Draws (walls (corners_at s n at) normal m) c d
+    → Draws (outer_walls closed (corners_at s n at) lid) c d
 unfolding outer_walls
-outer_drew {limit} {before} {d = d} {d' = d'} true s n at lid p q =
-    subst (λ (fs : List Face). Drew limit fs before d d') (ap₂ (walls (corners_at s n at)) p (q ∙ sym (corners_length s n at)))
-outer_drew {limit} {before} {d = d} {d' = d'} false s n at lid p q =
-    subst (λ (fs : List Face). Drew limit fs before d d') (ap₂ (walls (corners_at s n at)) p (q ∙ ap (λ (k : ℕ). k - 1) (sym (corners_length s n at))))
+outer_drew {c = c} {d} true s n at lid p q =
+    subst (λ (fs : List Face). Draws fs c d) (ap₂ (walls (corners_at s n at)) p (q ∙ sym (corners_length s n at)))
+outer_drew {c = c} {d} false s n at lid p q =
+    subst (λ (fs : List Face). Draws fs c d) (ap₂ (walls (corners_at s n at)) p (q ∙ ap (λ (k : ℕ). k - 1) (sym (corners_length s n at))))
 
 -- what is answered of an open outline, and of a closed one
 abbrev open_drawn : Tally → ℕ → Drawn
 open_drawn t price = record { first = 1; after = t ∷ t ∷ t ∷ t ∷ t ∷ t ∷ []; offered = price; entries = 0 }
 
-abbrev closed_drawn : Tally → Capped → Drawn
-closed_drawn t r = record { first = 1; after = t ∷ r.lid ∷ r.floor ∷ r.floor ∷ r.floor ∷ r.floor ∷ []; offered = r.offered; entries = r.entries }
+abbrev closed_drawn : Tally → Capped → Tally → Drawn
+closed_drawn t r floor = record { first = 1; after = t ∷ r.lid ∷ floor ∷ floor ∷ floor ∷ floor ∷ []; offered = r.offered; entries = r.entries }
 
 module _ (s : List ℕ) (i outer holes : ℕ) where
   abbrev pub outer_corners : List Corner
@@ -79,14 +80,14 @@ module _ (s : List ℕ) (i outer holes : ℕ) where
   corners_all = omega (arith, corners_length s outer (corners_place i holes), sum_lengths holes_of, ap total (holes_size s (counts_at s holes (i + 4)) (corners_place i holes + 24 * outer)))
 
   -- the lid and the floor can be counted behind the walls
-  lid_countable : {limit : Float} {before : ℕ} {vs ns : List Float} {is : List ℕ} {d : Drawing} (closed : Bool) (lid : Vector) {n : ℕ} → 3 * before < 2 ^ 32 → Placed s i outer holes n
-      → Drew limit (walls_of closed lid) before (drawing (tally 0 0 0) vs ns is) d → Countable before d.tally 1024 1224
-  lid_countable {limit} {before} closed lid h placed p =
-      let start : Countable before (tally 0 0 0) 3072 2248 = record { vertices = omega arith; kept = omega arith; thin = omega arith } in
+  lid_countable : (c : Canvas) {b : Canvas} (closed : Bool) (lid : Vector) {n : ℕ} → 3 * c.before < 2 ^ 32 → Placed s i outer holes n
+      → Draws (walls_of closed lid) (cleared c) b → CountableOn b 1024 1224
+  lid_countable c closed lid h placed p =
+      let start : CountableOn (cleared c) 3072 2248 = record { vertices = omega arith; kept = omega arith; thin = omega arith } in
       let walls = outer_walls closed outer_corners lid in
       let inner = join (hole_walls lid) holes_of in
       let e = corners_count s outer (corners_place i holes) (counts_at s holes (i + 4)) (corners_place i holes + 24 * outer) in
-      drew_countable limit start p
+      draws_countable start p
       (omega (arith, sum_append (λ f. length f.points) walls inner, outer_points closed outer_corners lid, holes_points lid holes_of, e, placed.counted.total, placed.counted.most))
       (omega (arith, sum_append count walls inner, outer_count closed outer_corners lid, holes_count lid holes_of, sum_lengths holes_of, e, placed.counted.total, placed.counted.most))
 
@@ -101,42 +102,41 @@ module _ (s : List ℕ) (i outer holes : ℕ) where
       let g : cond high t 0 ≡ cond (has_height (all_corners outer_corners holes_of)) price 0 = ap₂ (λ (b : Bool) (x : ℕ). cond b x 0) q p in
       omega (arith, p, g, corners_all)
 
-  -- an open outline, drawn
-  module _ {limit : Float} {before : ℕ} {vs ns : List Float} {is : List ℕ} {n : ℕ} where
-    open_object : (closed : Bool) {lid : Vector} {ls : List ℕ} {t : Tally} {price : ℕ} {vs' ns' : List Float} {is' : List ℕ} → closed ≡ false → lid ≡ lid_normal outer_corners → n ≡ corner_count s i outer holes
-        → Drew limit (walls_of closed lid) before (drawing (tally 0 0 0) vs ns is) (drawing t vs' ns' is') → price ≡ 2 * (outer - 1) + 2 * (n - outer)
-        → DrewObject limit (outline_shape s i closed outer holes) before vs ns is ls (open_drawn t price) vs' ns' is' ls
+  -- an open outline, drawn on a canvas that was c
+  module _ (c : Canvas) {n : ℕ} where
+    open_object : (closed : Bool) {lid : Vector} {ls : List ℕ} {price : ℕ} {b : Canvas} → closed ≡ false → lid ≡ lid_normal outer_corners → n ≡ corner_count s i outer holes
+        → Draws (walls_of closed lid) (cleared c) b → price ≡ 2 * (outer - 1) + 2 * (n - outer)
+        → DrewObject c.limit (outline_shape s i closed outer holes) c.before c.vertices.now c.normals.now c.indices.now ls (open_drawn b.tally price) b.vertices.now b.normals.now b.indices.now ls
     unfolding stages_of outline_stages offered outline_price log_of log_numbers join
-    open_object false c l e drew priced = record {
+    open_object false f l e drew priced = record {
       first = refl;
-      drew = rw l at (stages_walls limit drew);
+      drew = rw l at (drawn_walls drew).drew;
       offered = omega (arith, priced, e, corners_length s outer (corners_place i holes), corners_all);
       entries = refl;
       log = refl;
     }
-    open_object true c l e drew priced = absurd (true≢false c)
+    open_object true f l e drew priced = absurd (true≢false f)
 
-    -- a closed one, as the code has worked it out; its walls leave the drawing at d
-    closed_object : (closed : Bool) {ls : List ℕ} {d : Drawing} {r : Capped} {vs' ns' : List Float} {is' ls' : List ℕ} → closed ≡ true → n ≡ corner_count s i outer holes
-        → Drew limit (walls_of closed (lid_normal outer_corners)) before (drawing (tally 0 0 0) vs ns is) d
-        → DrewCap limit s (outline_in s i closed outer holes n) before d (drawing r.floor vs' ns' is') ls ls' r
-        → DrewObject limit (outline_shape s i closed outer holes) before vs ns is ls (closed_drawn d.tally r) vs' ns' is' ls'
+    -- a closed one, as the code has worked it out; its walls leave the canvas at b
+    closed_object : (closed : Bool) {ls ls' : List ℕ} {r : Capped} {b d : Canvas} → closed ≡ true → n ≡ corner_count s i outer holes
+        → Draws (walls_of closed (lid_normal outer_corners)) (cleared c) b → DrewCap s (outline_in s i closed outer holes n) b d ls ls' r
+        → DrewObject c.limit (outline_shape s i closed outer holes) c.before c.vertices.now c.normals.now c.indices.now ls (closed_drawn b.tally r d.tally) d.vertices.now d.normals.now d.indices.now ls'
     unfolding stages_of outline_stages log_of
-    closed_object true {ls} {d} {r} {vs'} {ns'} {is'} {ls'} c e sides capped =
-        let cap = subst (λ (m : ℕ). DrewCap limit s (outline_in s i true outer holes m) before d (drawing r.floor vs' ns' is') ls ls' r) e capped in
+    closed_object true {ls} {ls'} {r} {b} {d} f e sides capped =
+        let cap = subst (λ (m : ℕ). DrewCap s (outline_in s i true outer holes m) b d ls ls' r) e capped in
         let lid = lid_normal outer_corners in
         let told = corners_at s (corner_count s i outer holes) (corners_place i holes) in
         let ts = (lid_at s i outer holes).triangles in
         record {
           first = refl;
           drew =
-              subst (λ (cs : List Corner). DrewStages limit (four_stages (walls_of true lid) (lid_face cs lid ts ∷ []) (floor_faces cs lid ts) []) before (drawing (tally 0 0 0) vs ns is) (drawing r.floor vs' ns' is') (closed_drawn d.tally r).after)
-              (sym (all_corners_lem s i outer holes)) (stages_lidded limit told lid ts sides cap.drew);
+              subst (λ (cs : List Corner). DrewStages c.limit (four_stages (walls_of true lid) (lid_face cs lid ts ∷ []) (floor_faces cs lid ts) []) c.before (drawing_on (cleared c)) (drawing_on d) (closed_drawn b.tally r d.tally).after)
+              (sym (all_corners_lem s i outer holes)) (drawn_lidded told lid ts sides cap.drew).drew;
           offered = cap.offered ∙ closed_offered (has_height told) (length ts) refl refl;
           entries = cap.entries;
           log = cap.log;
         }
-    closed_object false c e sides cap = absurd (false≢true c)
+    closed_object false f e sides capped = absurd (false≢true f)
 
 -- ---- the outline that the code has worked out
 
@@ -162,27 +162,22 @@ module _ (s : List ℕ) (i : ℕ) (closed : Bool) (outer holes n : ℕ) {o : Out
       subst (λ (o : OutlineAt). o.high ≡ has_height (corners_at s o.n o.at)) (sym e)
       (ap (λ (b : Bool). cond b (has_height (corners_at s n (corners_place i holes))) false) c)
 
-  pub countable_in : {limit : Float} {before : ℕ} {vs ns : List Float} {is : List ℕ} {d : Drawing} → 3 * before < 2 ^ 32
-      → Drew limit (walls_in s closed o) before (drawing (tally 0 0 0) vs ns is) d → Countable before d.tally 1024 1224
-  countable_in {limit} {before} {vs} {ns} {is} {d} h p =
-      lid_countable s i outer holes closed _ h placed (subst (λ (o : OutlineAt). Drew limit (walls_in s closed o) before (drawing (tally 0 0 0) vs ns is) d) e p)
+  pub countable_in : (c : Canvas) {b : Canvas} → 3 * c.before < 2 ^ 32 → Draws (walls_in s closed o) (cleared c) b → CountableOn b 1024 1224
+  countable_in c {b} h p = lid_countable s i outer holes c closed _ h placed (subst (λ (o : OutlineAt). Draws (walls_in s closed o) (cleared c) b) e p)
 
-  module _ {limit : Float} {before : ℕ} {vs ns : List Float} {is : List ℕ} where
-    pub open_in : {ls : List ℕ} {t : Tally} {price : ℕ} {vs' ns' : List Float} {is' : List ℕ} → closed ≡ false
-        → Drew limit (walls_in s closed o) before (drawing (tally 0 0 0) vs ns is) (drawing t vs' ns' is') → price ≡ 2 * (o.outer - 1) + 2 * (o.n - o.outer)
-        → DrewObject limit (outline_shape s i closed outer holes) before vs ns is ls (open_drawn t price) vs' ns' is' ls
-    open_in {ls} {t} {price} {vs'} {ns'} {is'} c sides priced =
-        subst (λ (o : OutlineAt). Drew limit (walls_in s closed o) before (drawing (tally 0 0 0) vs ns is) (drawing t vs' ns' is') → price ≡ 2 * (o.outer - 1) + 2 * (o.n - o.outer)
-        → DrewObject limit (outline_shape s i closed outer holes) before vs ns is ls (open_drawn t price) vs' ns' is' ls) (sym e)
-        (λ drew offered. open_object s i outer holes closed c refl placed.counted.total drew offered) sides priced
+  pub open_in : (c : Canvas) {ls : List ℕ} {price : ℕ} {b : Canvas} → closed ≡ false → Draws (walls_in s closed o) (cleared c) b → price ≡ 2 * (o.outer - 1) + 2 * (o.n - o.outer)
+      → DrewObject c.limit (outline_shape s i closed outer holes) c.before c.vertices.now c.normals.now c.indices.now ls (open_drawn b.tally price) b.vertices.now b.normals.now b.indices.now ls
+  open_in c {ls} {price} {b} f sides priced =
+      subst (λ (o : OutlineAt). Draws (walls_in s closed o) (cleared c) b → price ≡ 2 * (o.outer - 1) + 2 * (o.n - o.outer)
+      → DrewObject c.limit (outline_shape s i closed outer holes) c.before c.vertices.now c.normals.now c.indices.now ls (open_drawn b.tally price) b.vertices.now b.normals.now b.indices.now ls) (sym e)
+      (λ drew offered. open_object s i outer holes c closed f refl placed.counted.total drew offered) sides priced
 
-    pub closed_in : {ls : List ℕ} {d : Drawing} {r : Capped} {vs' ns' : List Float} {is' ls' : List ℕ} → closed ≡ true
-        → Drew limit (walls_in s closed o) before (drawing (tally 0 0 0) vs ns is) d → DrewCap limit s o before d (drawing r.floor vs' ns' is') ls ls' r
-        → DrewObject limit (outline_shape s i closed outer holes) before vs ns is ls (closed_drawn d.tally r) vs' ns' is' ls'
-    closed_in {ls} {d} {r} {vs'} {ns'} {is'} {ls'} c sides cap =
-        subst (λ (o : OutlineAt). Drew limit (walls_in s closed o) before (drawing (tally 0 0 0) vs ns is) d → DrewCap limit s o before d (drawing r.floor vs' ns' is') ls ls' r
-        → DrewObject limit (outline_shape s i closed outer holes) before vs ns is ls (closed_drawn d.tally r) vs' ns' is' ls') (sym e)
-        (λ sides cap. closed_object s i outer holes closed c placed.counted.total sides cap) sides cap
+  pub closed_in : (c : Canvas) {ls ls' : List ℕ} {r : Capped} {b d : Canvas} → closed ≡ true → Draws (walls_in s closed o) (cleared c) b → DrewCap s o b d ls ls' r
+      → DrewObject c.limit (outline_shape s i closed outer holes) c.before c.vertices.now c.normals.now c.indices.now ls (closed_drawn b.tally r d.tally) d.vertices.now d.normals.now d.indices.now ls'
+  closed_in c {ls} {ls'} {r} {b} {d} f sides capped =
+      subst (λ (o : OutlineAt). Draws (walls_in s closed o) (cleared c) b → DrewCap s o b d ls ls' r
+      → DrewObject c.limit (outline_shape s i closed outer holes) c.before c.vertices.now c.normals.now c.indices.now ls (closed_drawn b.tally r d.tally) d.vertices.now d.normals.now d.indices.now ls') (sym e)
+      (λ drew lid. closed_object s i outer holes c closed f placed.counted.total drew lid) sides capped
 
 -- an outline that can be drawn is within the limits, at small places
 pub can_place : (s : List ℕ) (i before : ℕ) (closed : Bool) (outer holes corners : ℕ) → CanDraw s i (Outline closed outer holes corners) before → Placed s i outer holes corners

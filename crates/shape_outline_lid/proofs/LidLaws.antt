@@ -1,6 +1,6 @@
 -- A lid's triangles in a buffer, and its bounds. Assumes nothing.
 use mathlib.Core.Path.{◌≡◌, refl, sym, ap, ap₂, subst, ◌∙◌}
-use Prim.Native.Nat.{ℕ, suc, ◌+◌, ◌-◌, ◌*◌, ◌/◌, ◌<◌, ◌≤◌}
+use Prim.Native.Nat.{ℕ, suc, ◌+◌, ◌*◌, ◌/◌, ◌≤◌}
 use native.Mathlib.Omega.{arith}
 use mathlib.Core.List.{List, [], ◌∷◌, map}
 use lib.Dec.{lit<}
@@ -23,8 +23,10 @@ use Rattle.face.specs.declared.Tally.{Tally}
 use Rattle.face.specs.Faces.{Triangle}
 use Rattle.face.specs.Contract.Faces.{TriangleLow}
 use Rattle.face_triangle.specs.Contract.Triangles.{triangle_at, triangles_in}
-use Rattle.face.specs.Contract.Drawing.{Drawing, Drew, Countable}
-use Rattle.face.proofs.Draws.{drew_countable, countable_less}
+use Rattle.face.specs.declared.Canvas.{Canvas}
+use Rattle.face.specs.Contract.Drawing.{Countable, CountableOn, Draws}
+use Rattle.face.proofs.Canvases.{draws_countable}
+use Rattle.face.proofs.Draws.{countable_less}
 use Rattle.face_draw.proofs.OneFace.{length_triangles}
 use Rattle.lid.specs.Lid.{lid_price}
 use Rattle.lid.specs.Contract.Written.{triangle_record, triangle_numbers}
@@ -85,10 +87,10 @@ face_asks {before} {n} {k} {t} ts numbers ps e h countable low =
 -- ---- what can be counted behind it
 
 -- one face drawn of two with n points and k triangles each
-pub face_countable : {limit : Float} {before : ℕ} {d d' : Drawing} {part : ℕ} {ps : List Point} {ts : List Triangle} {out : Vector} (n k : ℕ)
-    → Countable before d.tally (2 * n) (2 * k) → Drew limit (face_at part ps ts out ∷ []) before d d' → length ps ≡ n → length ts ≡ k → Countable before d'.tally n k
+pub face_countable : {c d : Canvas} {part : ℕ} {ps : List Point} {ts : List Triangle} {out : Vector} (n k : ℕ)
+    → CountableOn c (2 * n) (2 * k) → Draws (face_at part ps ts out ∷ []) c d → length ps ≡ n → length ts ≡ k → CountableOn d n k
 unfolding sum_of
-face_countable {limit} n k countable p h g = drew_countable limit countable p (omega (arith, h)) (omega (arith, g))
+face_countable n k countable p h g = draws_countable countable p (omega (arith, h)) (omega (arith, g))
 
 -- ---- its bounds
 

@@ -1,71 +1,77 @@
 -- The walls of an outline's holes, one hole after the other. Assumes nothing.
 use mathlib.Core.Path.{◌≡◌, sym, ap, ap₂, ◌∙◌, subst}
-use Prim.Native.Nat.{ℕ, suc, ◌+◌, ◌-◌, ◌*◌, ◌<◌, ◌≤◌}
-use native.Mathlib.Nat.{sub-zero}
-use native.Mathlib.Numerals.{add-one}
+use Prim.Native.Nat.{ℕ, ◌+◌, ◌-◌, ◌*◌, ◌<◌, ◌≤◌}
+use native.Mathlib.Nat.{add-zero}
 use native.Mathlib.Omega.{arith}
-use mathlib.Core.List.{List, ◌∷◌}
-use lib.ListN.{length}
-use lib.Ieee.{Float}
+use mathlib.Core.List.{List, [], ◌∷◌, ◌++◌, append-nil}
 use Rattle.lists.specs.Loops.{list, join, sum_of}
-use Rattle.lists.proofs.Loops.{list_step}
-use Rattle.lists.proofs.Tests.{list_none}
+use Rattle.lists.proofs.Lists.{list_append, sum_append, join_append}
 use Rattle.coords_vector.specs.declared.Vector.{Vector}
 use Rattle.coords_vector.specs.Vectors.{negate}
-use Rattle.scene_field.specs.Fields.{corners_at, holes_at}
-use Rattle.scene.proofs.Parts.{corners_length}
+use Rattle.object.specs.declared.Corner.{Corner}
+use Rattle.scene_field.specs.Fields.{u16_at, corners_at, counts_at, holes_at}
+use Rattle.scene.proofs.Parts.{corners_length, holes_size}
 use Rattle.face.specs.Faces.{Face}
-use Rattle.face.specs.Contract.Drawing.{Drawing, drawn, Drew, Countable}
+use Rattle.face.specs.declared.Canvas.{Canvas}
+use Rattle.face.specs.Contract.Drawing.{CountableOn, Draws}
+use Rattle.face.proofs.Canvases.{list_more, draws_then, draws_countable}
 use Rattle.lid_plane.specs.Plane.{about}
 use Rattle.shape.specs.Shapes.{walls, hole_walls}
-use Rattle.shape_outline_walls.proofs.WallLaws.{walls_countable}
-use Rattle.shape_outline_walls.proofs.Drawings.{left_to_draw, none_to_draw}
+use Rattle.shape.proofs.Sizes.{sum_lengths, holes_points}
+use Rattle.shape.proofs.Prices.{holes_count}
 
 -- the walls of a hole, all round and facing into it
-pub hole_drew : {limit : Float} {before : ℕ} {round inward : Vector} {d d' : Drawing} (s : List ℕ) (n at : ℕ) (lid : Vector) → round ≡ about (corners_at s n at) lid → inward ≡ negate round
-    → Drew limit (walls (corners_at s n at) inward n) before d d' → Drew limit (hole_walls lid (corners_at s n at)) before d d'
+pub hole_drew : {round inward : Vector} {c d : Canvas} (s : List ℕ) (n at : ℕ) (lid : Vector) → round ≡ about (corners_at s n at) lid → inward ≡ negate round
+    → Draws (walls (corners_at s n at) inward n) c d → Draws (hole_walls lid (corners_at s n at)) c d
 unfolding hole_walls
-hole_drew {limit} {before} {round} {inward} {d} {d'} s n at lid r i =
-    subst (λ (fs : List Face). Drew limit fs before d d')
-    (ap₂ (walls (corners_at s n at)) (i ∙ ap negate r) (sym (corners_length s n at)))
+hole_drew {c = c} {d} s n at lid r i =
+    subst (λ (fs : List Face). Draws fs c d) (ap₂ (walls (corners_at s n at)) (i ∙ ap negate r) (sym (corners_length s n at)))
 
--- those of r corners more can be counted behind them
-pub hole_countable : {limit : Float} {before : ℕ} {d d' : Drawing} (s : List ℕ) (n at : ℕ) (lid : Vector) (m r : ℕ)
-    → Countable before d.tally (4 * m) (2 * m) → Drew limit (hole_walls lid (corners_at s n at)) before d d' → n + r ≤ m → Countable before d'.tally (4 * r) (2 * r)
-unfolding hole_walls
-hole_countable s n at lid m r countable p h = let cs = corners_at s n at in walls_countable cs (negate (about cs lid)) (length cs) m r countable p (omega (arith, corners_length s n at))
+-- the corners of holes by their counts
+abbrev pub corners_in : List ℕ → ℕ
+corners_in counts = sum_of (λ n. n) counts
 
--- what is left of n counts from the k-th on
-module _ (f : ℕ → ℕ) (n : ℕ) where
-  abbrev pub counts_left : ℕ → ℕ
-  counts_left k = sum_of (λ j. j) (list f (n - k) k)
+-- holes behind others
+holes_append : (s : List ℕ) (ns ms : List ℕ) (at : ℕ) → holes_at s (ns ++ ms) at ≡ holes_at s ns at ++ holes_at s ms (at + 24 * corners_in ns)
+unfolding holes_at sum_of
+holes_append s [] ms at = let e : at ≡ at + 24 * 0 = omega arith in ap (holes_at s ms) e
+holes_append s (n ∷ ns) ms at =
+    let e : at + 24 * n + 24 * corners_in ns ≡ at + 24 * (n + corners_in ns) = omega arith in
+    ap (λ (r : List (List Corner)). corners_at s n at ∷ r) (holes_append s ns ms (at + 24 * n) ∙ ap (λ (p : ℕ). holes_at s ns (at + 24 * n) ++ holes_at s ms p) e)
 
-  pub counts_start : counts_left 0 ≡ sum_of (λ j. j) (list f n 0)
-  counts_start = ap (λ (m : ℕ). sum_of (λ j. j) (list f m 0)) (sub-zero n)
+module _ (s : List ℕ) (counts at : ℕ) (lid : Vector) where
+  abbrev pub first_holes : ℕ → List (List Corner)
+  first_holes k = holes_at s (counts_at s k counts) at
 
-  pub counts_next : (k : ℕ) → k < n → counts_left k ≡ f k + counts_left (k + 1)
-  unfolding sum_of
-  counts_next k h = ap (sum_of (λ j. j)) (list_step f n k h) ∙ ap (λ (j : ℕ). f k + sum_of (λ j. j) (list f (n - j) j)) (sym (add-one k))
+  -- one count more
+  pub counts_next : (k : ℕ) → corners_in (counts_at s (k + 1) counts) ≡ corners_in (counts_at s k counts) + u16_at s (counts + 2 * k)
+  unfolding counts_at sum_of
+  counts_next k =
+      let f : ℕ → ℕ = λ j. u16_at s (counts + 2 * j) in
+      ap corners_in (list_more f k) ∙ sum_append (λ n. n) (list f k 0) (f k ∷ []) ∙ ap (λ (m : ℕ). corners_in (list f k 0) + m) (add-zero (f k))
 
--- the walls of the holes: at the start, after one hole, and at the end
-module _ (limit : Float) (before : ℕ) (s : List ℕ) (lid : Vector) (f : ℕ → ℕ) (n : ℕ) where
-  abbrev pub holes_left : ℕ → ℕ → List Face
-  holes_left k place = join (hole_walls lid) (holes_at s (list f (n - k) k) place)
+  pub counts_most : (n k : ℕ) → k < n → corners_in (counts_at s (k + 1) counts) ≤ corners_in (counts_at s n counts)
+  unfolding counts_at
+  counts_most n k h =
+      let f : ℕ → ℕ = λ j. u16_at s (counts + 2 * j) in
+      let e : n ≡ k + 1 + (n - (k + 1)) = omega arith in
+      omega (arith, ap (λ (m : ℕ). corners_in (list f m 0)) e, ap corners_in (list_append f (k + 1) (n - (k + 1)) 0), sum_append (λ n. n) (list f (k + 1) 0) (list f (n - (k + 1)) (0 + (k + 1))))
 
-  pub holes_start : (place : ℕ) (d : Drawing) → drawn limit (holes_left 0 place) before d ≡ drawn limit (join (hole_walls lid) (holes_at s (list f n 0) place)) before d
-  holes_start place d = ap (λ (m : ℕ). drawn limit (join (hole_walls lid) (holes_at s (list f m 0) place)) before d) (sub-zero n)
+  -- one hole more drawn behind the first k
+  pub holes_next : (k n place : ℕ) {a b c : Canvas} → n ≡ u16_at s (counts + 2 * k) → place ≡ at + 24 * corners_in (counts_at s k counts) → Draws (join (hole_walls lid) (first_holes k)) a b
+      → Draws (hole_walls lid (corners_at s n place)) b c → Draws (join (hole_walls lid) (first_holes (k + 1))) a c
+  unfolding counts_at join holes_at
+  holes_next k n place {a} {c = c} e p drawn hole =
+      let f : ℕ → ℕ = λ j. u16_at s (counts + 2 * j) in
+      subst (λ (fs : List Face). Draws fs a c)
+      (ap₂ (λ (m o : ℕ). join (hole_walls lid) (holes_at s (list f k 0) at) ++ hole_walls lid (corners_at s m o)) e p
+      ∙ ap (λ (fs : List Face). join (hole_walls lid) (holes_at s (list f k 0) at) ++ fs) (sym (append-nil (hole_walls lid (corners_at s (f k) (at + 24 * corners_in (list f k 0))))))
+      ∙ sym (join_append (hole_walls lid) (holes_at s (list f k 0) at) (holes_at s (f k ∷ []) (at + 24 * corners_in (list f k 0))))
+      ∙ ap (join (hole_walls lid)) (sym (holes_append s (list f k 0) (f k ∷ []) at) ∙ ap (λ (l : List ℕ). holes_at s l at) (sym (list_more f k))))
+      (draws_then drawn hole)
 
-  pub holes_next : (k place c : ℕ) {d d' x : Drawing} → k < n → c ≡ f k → Drew limit (hole_walls lid (corners_at s c place)) before d d'
-      → drawn limit (holes_left k place) before d ≡ x → drawn limit (holes_left (k + 1) (place + 24 * c)) before d' ≡ x
-  unfolding join holes_at
-  holes_next k place c {d} {d'} h g p e =
-      ap (λ (j : ℕ). drawn limit (holes_left j (place + 24 * c)) before d') (add-one k)
-      ∙ left_to_draw limit before (holes_left (suc k) (place + 24 * c)) p
-      (ap (λ (b : ℕ). drawn limit (join (hole_walls lid) (holes_at s (b ∷ list f (n - suc k) (suc k)) place)) before d) g
-      ∙ sym (ap (λ (l : List ℕ). drawn limit (join (hole_walls lid) (holes_at s l place)) before d) (list_step f n k h))
-      ∙ e)
-
-  pub holes_end : (k place : ℕ) {d x : Drawing} → n ≤ k → drawn limit (holes_left k place) before d ≡ x → d ≡ x
-  unfolding join holes_at
-  holes_end k place {d} h e =
-      none_to_draw limit before d (sym (ap (λ (l : List ℕ). drawn limit (join (hole_walls lid) (holes_at s l place)) before d) (list_none f n k h)) ∙ e)
+  -- the walls of r corners more can be counted behind those of the first k holes
+  pub holes_countable : (k m r : ℕ) {a b : Canvas} → CountableOn a (4 * m) (2 * m) → Draws (join (hole_walls lid) (first_holes k)) a b → corners_in (counts_at s k counts) + r ≤ m → CountableOn b (4 * r) (2 * r)
+  holes_countable k m r countable p h =
+      let e = sum_lengths (first_holes k) ∙ ap corners_in (holes_size s (counts_at s k counts) at) in
+      draws_countable countable p (omega (arith, holes_points lid (first_holes k), sum_lengths (first_holes k), e)) (omega (arith, holes_count lid (first_holes k), e))

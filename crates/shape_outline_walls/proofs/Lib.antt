@@ -1,3 +1,2 @@
-pub mod Drawings
 pub mod WallLaws
 pub mod HoleWallLaws

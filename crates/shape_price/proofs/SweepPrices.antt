@@ -1,6 +1,6 @@
 -- The price of sweeps, one pair at a time. Assumes nothing.
 use mathlib.Core.Path.{◌≡◌, refl, sym, ap, ap₂, ◌∙◌}
-use mathlib.Core.List.{List, [], ◌∷◌, ◌++◌}
+use mathlib.Core.List.{List, [], ◌∷◌}
 use Prim.Native.Nat.{ℕ, zero, suc, ◌+◌, ◌-◌, ◌*◌, ◌<◌}
 use native.Mathlib.Nat.{add-zero}
 use native.Mathlib.Omega.{arith}
@@ -9,7 +9,7 @@ use Rattle.lists.specs.Loops.{list, sum_of}
 use Rattle.lists.proofs.Lists.{sum_append}
 use Rattle.object.specs.declared.Section.{Section}
 use Rattle.object.specs.Object.{sweep, round_sweep}
-use Rattle.scene_field.specs.Fields.{section_at, sections_at}
+use Rattle.scene_field.specs.Fields.{sections_at}
 use Rattle.scene.proofs.Parts.{sections_length}
 use Rattle.shape.specs.Shapes.{pairs}
 use Rattle.shape.specs.Price.{pair_price, pairs_price, caps_price, offered}
@@ -26,14 +26,14 @@ pairs_sum (a ∷ []) = refl
 pairs_sum (a ∷ b ∷ rest) = ap (λ (m : ℕ). pair_price a b + m) (pairs_sum (b ∷ rest))
 
 -- with one section more, one pair more
-pub price_next : (g : ℕ → Section) (k : ℕ) {a b : Section} {sum p : ℕ} → sum ≡ pairs_price (list g (k + 1) 0) → a ≡ g k → b ≡ g (k + 1) → p ≡ pair_price a b
-    → sum + p ≡ pairs_price (list g (k + 1 + 1) 0)
+pub price_next : (g : ℕ → Section) (k : ℕ) {a b : Section} {sum p : ℕ} → 0 < k → sum ≡ pairs_price (list g k 0) → a ≡ g (k - 1) → b ≡ g k → p ≡ pair_price a b
+    → sum + p ≡ pairs_price (list g (k + 1) 0)
 unfolding sum_of
-price_next g k {a} {b} {sum} {p} h x y e =
-    ap₂ ◌+◌ (h ∙ sym (pairs_sum (list g (k + 1) 0))) (e ∙ ap₂ pair_price x y ∙ sym (add-zero (pair_price (g k) (g (k + 1)))))
-    ∙ sym (sum_append (λ p. p) (pairs prices (list g (k + 1) 0)) (prices (g k) (g (k + 1))))
-    ∙ ap (sum_of (λ p. p)) (sym (pairs_next prices g k))
-    ∙ pairs_sum (list g (k + 1 + 1) 0)
+price_next g k {a} {b} {sum} {p} z h x y e =
+    ap₂ ◌+◌ (h ∙ sym (pairs_sum (list g k 0))) (e ∙ ap₂ pair_price x y ∙ sym (add-zero (pair_price (g (k - 1)) (g k))))
+    ∙ sym (sum_append (λ p. p) (pairs prices (list g k 0)) (prices (g (k - 1)) (g k)))
+    ∙ ap (sum_of (λ p. p)) (sym (pairs_next prices g k z))
+    ∙ pairs_sum (list g (k + 1) 0)
 
 caps_price_lem : (c : ℕ) (ss : List Section) → 0 < length ss → caps_price c ss ≡ c
 unfolding caps_price

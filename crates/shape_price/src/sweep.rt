@@ -23,7 +23,8 @@ fn pair_price(a: Section, b: Section) -> u32
     8
 }
 
-// Of the sweep of the n sections from place `at` on.
+// Of the sweep of the n sections from place `at` on. No struct for `s`, `at` and `n`: it would be taken
+// apart here at once.
 pub fn sweep_price(s: &[u8], at: usize, n: usize) -> u32
     requires { (n ≤ most_sections) × (at + section_bytes * n ≤ length s.now) }
     ensures { result ≡ offered (sweep (sections_at s.now n at)) }
@@ -33,12 +34,10 @@ pub fn sweep_price(s: &[u8], at: usize, n: usize) -> u32
     }
     let mut a = section_at(s, at);
     let mut sum: u32 = 0;
-    let mut k = 0;
-    while k + 1 < n {
-        let b = section_at(s, at + 48 * (k + 1));
-        sum = sum + pair_price(a, b);
+    for k in 1..n {
+        let b = section_at(s, at + 48 * k);
+        sum += pair_price(a, b);
         a = b;
-        k = k + 1;
     }
     sum + 4
 }

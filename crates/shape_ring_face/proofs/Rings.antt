@@ -1,6 +1,6 @@
--- Rings of points: an array filled one place after the other, its points as numbers, and faces drawn one after the other. Assumes nothing.
+-- Rings of points: an array filled one place after the other, and its points as numbers. Assumes nothing.
 use mathlib.Core.Path.{◌≡◌, refl, sym, ap, ap₂, ◌∙◌}
-use mathlib.Core.List.{List, [], ◌∷◌, ◌++◌, append-nil}
+use mathlib.Core.List.{List, ◌++◌, append-nil}
 use Prim.Native.Nat.{ℕ, suc, ◌+◌, ◌-◌, ◌*◌, ◌<◌, ◌≤◌}
 use native.Mathlib.Nat.{zero-add}
 use native.Mathlib.Numerals.{add-one}
@@ -9,26 +9,13 @@ use lib.ListN.{length, get_or, set, drop, drop_of_length-le}
 use lib.Seq.{drop-cons, set_at, append_snoc, sets, sets-eq, ext_get_or}
 use lib.Ieee.{Float}
 use Rattle.lists.specs.Loops.{list, join}
-use Rattle.lists.proofs.Lists.{length_list, get_d_list, get_d_any, list_append}
+use Rattle.lists.proofs.Lists.{length_list, get_d_list, get_d_any}
 use Rattle.lists.proofs.Stores.{sets_three, store_start, store_next, store_end}
 use Rattle.coords.specs.declared.Point.{Point}
 use Rattle.coords.specs.Coords.{origin}
 use Rattle.coords.specs.Buffers.{vertex_record, vertex_numbers}
 use Rattle.coords.proofs.Buffers.{vertices_size}
-use Rattle.face.specs.Faces.{Face}
-use Rattle.face.specs.Contract.Drawing.{Drawing, Drew}
-use Rattle.face.proofs.Draws.{then}
-
--- ---- one more at the end
-
-pub list_more : {A : Type 0} (f : ℕ → A) (k : ℕ) → list f (k + 1) 0 ≡ list f k 0 ++ (f k ∷ [])
-unfolding list
-list_more f k = list_append f k 1 0 ∙ ap (λ (j : ℕ). list f k 0 ++ (f j ∷ [])) (zero-add k)
-
--- one turn of a loop that draws f 0, f 1, ..
-pub drew_next : (limit : Float) (f : ℕ → Face) (k : ℕ) {before : ℕ} {d d' d'' : Drawing}
-    → Drew limit (list f k 0) before d d' → Drew limit (f k ∷ []) before d' d'' → Drew limit (list f (k + 1) 0) before d d''
-drew_next limit f k p q = rw (list_more f k) (then limit p q)
+use Rattle.face.proofs.Canvases.{list_more}
 
 -- one turn of a loop that fills an array with f 0, f 1, ..
 pub fill_next : {A : Type 0} (f : ℕ → A) (l : List A) (k : ℕ) (d : A) → k < length l → set (list f k 0 ++ drop k l) k (f k) ≡ list f (k + 1) 0 ++ drop (k + 1) l

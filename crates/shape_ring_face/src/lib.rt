@@ -4,15 +4,15 @@
 
 ghost use Rattle.std.specs.Prelude.{◌≡◌};
 ghost use Rattle.coords.specs.Buffers.{vertex_numbers};
-ghost use Rattle.face.specs.Contract.Drawing.{Countable, DrawsFace};
+ghost use Rattle.face.specs.Contract.Drawing.{CountableOn, DrawsFace};
 ghost use Rattle.shape.specs.Shapes.{end_face};
 
 use coords::Point;
 use coords_vector::Vector;
-use face::Tally;
+use face::Canvas;
 
 // The sixteen points of a ring.
-type RingPoints = [Point; 16];
+pub type RingPoints = [Point; 16];
 
 // The triangles from the first point, three numbers to one.
 const FAN: [u32; 42] = [
@@ -21,35 +21,23 @@ const FAN: [u32; 42] = [
 ];
 
 // The points' coordinates, three to a point.
-fn numbers_of(ring: RingPoints) -> [f32; 48]
-    ensures { result ≡ vertex_numbers ring }
+fn numbers_of(ring: &RingPoints) -> [f32; 48]
+    ensures { result ≡ vertex_numbers ring.now }
 {
     let mut numbers = [0.0f32; 48];
-    let mut k: usize = 0;
-    while k < 16 {
-        let p = ring[k];
+    for (k, p) in ring.iter().enumerate() {
         numbers[3 * k] = p.x;
         numbers[3 * k + 1] = p.y;
         numbers[3 * k + 2] = p.z;
-        k = k + 1;
     }
     numbers
 }
 
-pub fn end(
-    ring: RingPoints,
-    out: Vector,
-    limit: f32,
-    before: u32,
-    t: Tally,
-    vs: &mut [f32],
-    ns: &mut [f32],
-    is: &mut [u32],
-) -> Tally
-    requires { Countable before t 16 14 }
-    ensures { DrawsFace limit (end_face ring out) before t result vs ns is }
+pub fn end(canvas: &mut Canvas<'_>, ring: &RingPoints, out: Vector)
+    requires { CountableOn canvas.old 16 14 }
+    ensures { DrawsFace (end_face ring.now out) canvas.old canvas.new }
 {
     let numbers = numbers_of(ring);
     let fan = FAN;
-    face_draw::face(&numbers, &fan, out, limit, before, t, vs, ns, is)
+    face_draw::face(canvas, &numbers, &fan, out);
 }

@@ -6,7 +6,6 @@ use native.Mathlib.Nat.{zero-add, add-zero, add-suc, suc-add, not-suc-le-zero}
 use native.Mathlib.Numerals.{add-one}
 use native.Mathlib.Omega.{arith}
 use lib.ListN.{length, get_or, length-map}
-use lib.Ieee.{Float}
 use Rattle.lists.specs.Loops.{list}
 use Rattle.lists.proofs.Lists.{length_list, get_d_list}
 use Rattle.coords.specs.declared.Point.{Point}
@@ -14,8 +13,9 @@ use Rattle.coords_vector.specs.declared.Vector.{Vector}
 use Rattle.coords.specs.Coords.{origin, diff}
 use Rattle.object.specs.declared.Section.{Section}
 use Rattle.face.specs.Faces.{Face}
-use Rattle.face.specs.Contract.Drawing.{Drawing, Drew}
-use Rattle.face.proofs.Draws.{then}
+use Rattle.face.specs.declared.Canvas.{Canvas}
+use Rattle.face.specs.Contract.Drawing.{Draws}
+use Rattle.face.proofs.Canvases.{draws_then}
 use Rattle.scene_field.specs.Fields.{section_at, sections_at}
 use Rattle.scene.proofs.Parts.{sections_length}
 use Rattle.shape_section.specs.Contract.Places.{EndPlaces}
@@ -36,19 +36,20 @@ module _ {A B : Type 0} (f : A → A → List B) (g : ℕ → A) where
       ∙ ap (λ (j : ℕ). (f (g i) (g (suc i)) ++ pairs f (list g (suc k) (suc i))) ++ f (g j) (g (suc j))) (suc-add i k ∙ sym (add-suc i k))
 
   -- with one element more, one pair more
-  pub pairs_next : (k : ℕ) → pairs f (list g (k + 1 + 1) 0) ≡ pairs f (list g (k + 1) 0) ++ f (g k) (g (k + 1))
-  pairs_next k =
-      ap (λ (m : ℕ). pairs f (list g m 0)) (add-one (k + 1) ∙ ap suc (add-one k))
+  pub pairs_next : (k : ℕ) → 0 < k → pairs f (list g (k + 1) 0) ≡ pairs f (list g k 0) ++ f (g (k - 1)) (g k)
+  pairs_next zero h = absurd (not-suc-le-zero h)
+  pairs_next (suc k) h =
+      let before : k ≡ suc k - 1 = omega arith in
+      ap (λ (m : ℕ). pairs f (list g m 0)) (add-one (suc k))
       ∙ pairs_last k 0
       ∙ ap (λ (j : ℕ). pairs f (list g (suc k) 0) ++ f (g j) (g (suc j))) (zero-add k)
-      ∙ ap (λ (m : ℕ). pairs f (list g m 0) ++ f (g k) (g m)) (sym (add-one k))
+      ∙ ap (λ (j : ℕ). pairs f (list g (suc k) 0) ++ f (g j) (g (suc k))) before
 
 -- a pair's faces drawn behind those of the pairs before it
-pub pair_drawn : {A : Type 0} (f : A → A → List Face) (g : ℕ → A) (k : ℕ) {limit : Float} {before : ℕ} {d d' d'' : Drawing} {a b : A}
-    → Drew limit (pairs f (list g (k + 1) 0)) before d d' → a ≡ g k → b ≡ g (k + 1) → Drew limit (f a b) before d' d''
-    → Drew limit (pairs f (list g (k + 1 + 1) 0)) before d d''
-pair_drawn f g k {limit} {before} {d} {d'} {d''} p x y q =
-    subst (λ (fs : List Face). Drew limit fs before d d'') (ap₂ (λ u w. pairs f (list g (k + 1) 0) ++ f u w) x y ∙ sym (pairs_next f g k)) (then limit p q)
+pub pair_drawn : {A : Type 0} (f : A → A → List Face) (g : ℕ → A) (k : ℕ) {c c' c'' : Canvas} {a b : A} → 0 < k
+    → Draws (pairs f (list g k 0)) c c' → a ≡ g (k - 1) → b ≡ g k → Draws (f a b) c' c'' → Draws (pairs f (list g (k + 1) 0)) c c''
+pair_drawn f g k {c} {c'' = c''} h p x y q =
+    subst (λ (fs : List Face). Draws fs c c'') (ap₂ (λ u w. pairs f (list g k 0) ++ f u w) x y ∙ sym (pairs_next f g k h)) (draws_then p q)
 
 -- ---- the directions at the ends
 

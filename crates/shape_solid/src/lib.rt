@@ -5,10 +5,10 @@
 ghost use Rattle.std.specs.Prelude.{◌≡◌};
 ghost use Rattle.scene_field.specs.Fields.{point_at};
 ghost use Rattle.scene.specs.Contract.Headers.{orientation_of, SolidIn};
-ghost use Rattle.face.specs.Contract.Drawing.{Countable};
+ghost use Rattle.face.specs.Contract.Drawing.{CountableOn};
 ghost use Rattle.shape.specs.Contract.Stages.{solid_stages, DrawsStages};
 
-use face::Tally;
+use face::Canvas;
 use object::{Extent, Orientation};
 use scene::headers::SolidAt;
 use shape::StageTallies;
@@ -24,32 +24,17 @@ fn orientation_of(s: &[u8], p: SolidAt) -> Orientation
 }
 
 // A solid where it stands in the scene's bytes: what was written and counted after each stage.
-pub fn solid(
-    s: &[u8],
-    p: SolidAt,
-    limit: f32,
-    before: u32,
-    t: Tally,
-    vs: &mut [f32],
-    ns: &mut [f32],
-    is: &mut [u32],
-) -> StageTallies
-    requires { SolidIn s.now p × Countable before t 96 60 }
-    ensures { DrawsStages limit (solid_stages (point_at s.now p.position) (orientation_of s.now p) p.extent)
-        before t result vs ns is }
+#[tactic(auto, unfolding(shape::specs::Contract::Stages::solid_stages))]
+pub fn solid(canvas: &mut Canvas<'_>, s: &[u8], p: SolidAt) -> StageTallies
+    requires { SolidIn s.now p × CountableOn canvas.old 96 60 }
+    ensures { DrawsStages (solid_stages (point_at s.now p.position) (orientation_of s.now p) p.extent) result canvas.old canvas.new }
 {
     let origin = scene_point::point_at(s, p.position);
     let turn = orientation_of(s, p);
     let extent = p.extent;
     match extent {
-        Extent::Box(length, width, height) => {
-            cuboid(
-                origin, turn, length, width, height, limit, before, t, vs, ns, is,
-            )
-        }
-        Extent::Cylinder(radius, height) => {
-            cylinder(origin, turn, radius, height, limit, before, t, vs, ns, is)
-        }
-        Extent::Unsized => [t; 6],
+        Extent::Box(length, width, height) => cuboid(canvas, origin, turn, length, width, height),
+        Extent::Cylinder(radius, height) => cylinder(canvas, origin, turn, radius, height),
+        Extent::Unsized => [canvas.tally; 6],
     }
 }

@@ -6,7 +6,7 @@ use Prim.Native.Nat.{ℕ, zero, suc, ◌+◌, ◌-◌, ◌*◌, ◌≤◌, ◌<�
 use native.Mathlib.Nat.{not-suc-le-zero}
 use native.Mathlib.Omega.{arith}
 use lib.ListN.{length, get_or}
-use lib.Ieee.{Float, neg}
+use lib.Ieee.{neg}
 use Rattle.float.specs.Number.{zerof}
 use Rattle.lists.specs.Loops.{list, sum_of}
 use Rattle.lists.proofs.Lists.{length_list}
@@ -16,15 +16,16 @@ use Rattle.coords_vector.specs.Vectors.{vector, unit_z, negate}
 use Rattle.coords.specs.Coords.{diff}
 use Rattle.object.specs.declared.Section.{Section}
 use Rattle.face.specs.Faces.{Face, fan, quad}
-use Rattle.face.specs.Contract.Drawing.{Drawing, Drew}
+use Rattle.face.specs.declared.Canvas.{Canvas}
+use Rattle.face.specs.Contract.Drawing.{Draws, DrawsFace, CountableOn}
 use Rattle.face.proofs.Counts.{count}
-use Rattle.face.proofs.Draws.{then}
+use Rattle.face.proofs.Canvases.{draws_then, draws_part, draws_countable}
 use Rattle.scene_field.specs.Fields.{point_at, corner_at, section_at, sections_at}
 use Rattle.scene.proofs.Parts.{sections_get}
 use Rattle.shape_section.specs.Contract.Places.{EndPlaces}
 use Rattle.shape.specs.Shapes.{section0, is_widthless_section, is_flat_section, pair_faces, pairs, start_out, end_out, cap, sweep_caps}
-use Rattle.shape.specs.Contract.Stages.{four_stages, sweep_stages, DrewStages}
-use Rattle.shape.proofs.Stages.{stages_capped}
+use Rattle.shape.specs.Contract.Stages.{four_stages, sweep_stages, DrawsStages}
+use Rattle.shape.proofs.Canvases.{drawn_capped}
 use Rattle.shape_section.proofs.Neighbours.{ends_are}
 
 -- the points of a face
@@ -49,24 +50,31 @@ pair_triangles a b = four_most count 2 (is_widthless_section a && is_widthless_s
 both : {p q x y v : Bool} → x ≡ p → y ≡ q → x && y ≡ v → p && q ≡ v
 both e f g = sym (ap₂ ◌&&◌ e f) ∙ g
 
+-- how many more can be counted behind a face of four points
+pub quad_countable : (v k : ℕ) (p q r s : Point) (out : Vector) {c d : Canvas} → CountableOn c (v + 4) (k + 2) → DrawsFace (λ part. quad part p q r s out) c d → CountableOn d v k
+unfolding quad fan list sum_of
+quad_countable v k p q r s out h drew = draws_countable h (draws_part 1 drew) (omega arith) (omega arith)
+
 -- the faces between two sections drawn one by one: widthless ones have the left wall only, flat ones no floor
-module _ (a b : Section) {limit : Float} {before : ℕ} {out : Vector} {widthlessA widthlessB : Bool} (side : out ≡ vector (neg (diff b.left.base a.left.base).y) (diff b.left.base a.left.base).x zerof)
-    (is_a : widthlessA ≡ is_widthless_section a) (is_b : widthlessB ≡ is_widthless_section b) {d d₁ : Drawing} (left : Drew limit (quad 1 a.left.base b.left.base b.left.top a.left.top out ∷ []) before d d₁) where
-  pub widthless_pair : widthlessA && widthlessB ≡ true → Drew limit (pair_faces a b) before d d₁
+module _ (a b : Section) {out : Vector} {widthlessA widthlessB : Bool} (side : out ≡ vector (neg (diff b.left.base a.left.base).y) (diff b.left.base a.left.base).x zerof)
+    (is_a : widthlessA ≡ is_widthless_section a) (is_b : widthlessB ≡ is_widthless_section b) {c c₁ : Canvas} (left : DrawsFace (λ part. quad part a.left.base b.left.base b.left.top a.left.top out) c c₁) where
+  pub widthless_pair : widthlessA && widthlessB ≡ true → Draws (pair_faces a b) c c₁
   unfolding pair_faces
-  widthless_pair t = rw (both is_a is_b t, ← side) left
+  widthless_pair t = rw (both is_a is_b t, ← side) (draws_part 1 left)
 
-  module _ (t : widthlessA && widthlessB ≡ false) {back : Vector} {flatA flatB : Bool} (behind : back ≡ negate out) (onA : flatA ≡ is_flat_section a) (onB : flatB ≡ is_flat_section b) {d₂ d₃ : Drawing}
-      (right : Drew limit (quad 1 a.right.base b.right.base b.right.top a.right.top back ∷ []) before d₁ d₂)
-      (top : Drew limit (quad 1 a.left.top b.left.top b.right.top a.right.top unit_z ∷ []) before d₂ d₃) where
-    pub flat_pair : flatA && flatB ≡ true → Drew limit (pair_faces a b) before d d₃
+  module _ (t : widthlessA && widthlessB ≡ false) {back : Vector} {flatA flatB : Bool} (behind : back ≡ negate out) (onA : flatA ≡ is_flat_section a) (onB : flatB ≡ is_flat_section b) {c₂ c₃ : Canvas}
+      (right : DrawsFace (λ part. quad part a.right.base b.right.base b.right.top a.right.top back) c₁ c₂)
+      (top : DrawsFace (λ part. quad part a.left.top b.left.top b.right.top a.right.top unit_z) c₂ c₃) where
+    pub flat_pair : flatA && flatB ≡ true → Draws (pair_faces a b) c c₃
     unfolding pair_faces
-    flat_pair f = rw (both is_a is_b t, both onA onB f, ← side, ← behind) (then limit left (then limit right top))
+    flat_pair f = rw (both is_a is_b t, both onA onB f, ← side, ← behind) (draws_then (draws_part 1 left) (draws_then (draws_part 1 right) (draws_part 1 top)))
 
-    pub whole_pair : {down : Vector} {d₄ : Drawing} → flatA && flatB ≡ false → down ≡ negate unit_z
-        → Drew limit (quad 1 a.left.base b.left.base b.right.base a.right.base down ∷ []) before d₃ d₄ → Drew limit (pair_faces a b) before d d₄
+    pub whole_pair : {down : Vector} {c₄ : Canvas} → flatA && flatB ≡ false → down ≡ negate unit_z
+        → DrawsFace (λ part. quad part a.left.base b.left.base b.right.base a.right.base down) c₃ c₄ → Draws (pair_faces a b) c c₄
     unfolding pair_faces
-    whole_pair f below floor = rw (both is_a is_b t, both onA onB f, ← side, ← behind, ← below) (then limit left (then limit right (then limit top floor)))
+    whole_pair f below floor =
+        rw (both is_a is_b t, both onA onB f, ← side, ← behind, ← below)
+        (draws_then (draws_part 1 left) (draws_then (draws_part 1 right) (draws_then (draws_part 1 top) (draws_part 1 floor))))
 
 module _ (s : List ℕ) (at : ℕ) where
   pub sweep_none : (n : ℕ) → n ≡ 0 → sweep_stages (sections_at s n at) ≡ four_stages [] [] [] []
@@ -104,14 +112,11 @@ module _ (s : List ℕ) (at : ℕ) where
   caps_drawn n h p = ends_are s at (λ (x : Section). x.left.base) (λ (x : Section) (u : Vector) (y : Section) (w : Vector). cap x u ∷ cap y w ∷ []) n h p ∙ caps_at n h
 
   -- the caps drawn behind the faces between the sections
-  pub sweep_drawn : (n k : ℕ) {second last previous : ℕ} {limit : Float} {before : ℕ} {x y : Section} {p q : Point} {u w : Vector} {d d₁ d₂ d₃ : Drawing} → k + 1 ≡ n
-      → EndPlaces at n second last previous → x ≡ section_at s at → y ≡ section_at s (at + 48 * k) → p ≡ point_at s second → q ≡ point_at s previous
-      → u ≡ diff x.left.base p → w ≡ diff y.left.base q → Drew limit (pairs pair_faces (sections_at s (k + 1) at)) before d d₁
-      → Drew limit (quad 4 x.left.base x.right.base x.right.top x.left.top u ∷ []) before d₁ d₂
-      → Drew limit (quad 4 y.left.base y.right.base y.right.top y.left.top w ∷ []) before d₂ d₃
-      → DrewStages limit (sweep_stages (sections_at s n at)) before d d₃ (d₁.tally ∷ d₁.tally ∷ d₁.tally ∷ d₃.tally ∷ d₃.tally ∷ d₃.tally ∷ [])
-  unfolding sweep_stages cap
-  sweep_drawn n k {last = last} {limit} {y = y} g e f h i j v z a b c =
-      let m : at + 48 * k ≡ last = omega (arith, e.end) in
-      let l : y ≡ section_at s last = h ∙ ap (section_at s) m in
-      rw (← caps_drawn n (omega arith) e, ← f, ← l, ← i, ← j, ← v, ← z) (stages_capped limit (rw g at a) (then limit b c))
+  pub sweep_drawn : (n : ℕ) {second last previous : ℕ} {x y : Section} {p q : Point} {u w : Vector} {a b c d : Canvas} → 0 < n
+      → EndPlaces at n second last previous → x ≡ section_at s at → y ≡ section_at s (at + 48 * (n - 1)) → p ≡ point_at s second → q ≡ point_at s previous
+      → u ≡ diff x.left.base p → w ≡ diff y.left.base q → Draws (pairs pair_faces (sections_at s n at)) a b → Draws (cap x u ∷ []) b c → Draws (cap y w ∷ []) c d
+      → DrawsStages (sweep_stages (sections_at s n at)) (b.tally ∷ b.tally ∷ b.tally ∷ d.tally ∷ d.tally ∷ d.tally ∷ []) a d
+  unfolding sweep_stages
+  sweep_drawn n {last = last} {y = y} g e f h i j v z sides start end =
+      let l : y ≡ section_at s last = h ∙ ap (section_at s) (sym e.end) in
+      rw (← caps_drawn n g e, ← f, ← l, ← i, ← j, ← v, ← z) (drawn_capped sides (draws_then start end))

@@ -4,28 +4,10 @@
 
 #![tactic(auto)]
 
-ghost use Rattle.std.specs.Prelude.{◌≡◌, length, IfErr};
-ghost use Rattle.std.specs.Io.{ReadsAtMost};
-
+use input::read_full;
 use std::io::Read;
 use std::{fs, io};
-
-// Reads until `to` is full or the input ends, and answers how many bytes it put at the start of
-// `to`.
-fn read_full(input: &mut impl Read, to: &mut [u8]) -> io::Result<usize>
-    ensures ok { ReadsAtMost result to.new }
-    ensures err { IfErr result (λ e. length to.new ≡ length to.old) }
-{
-    let mut done = 0;
-    while done < to.len() {
-        let n = input.read(&mut to[done..])?;
-        if n == 0 {
-            break;
-        }
-        done += n;
-    }
-    Ok(done)
-}
+use test_words::next_word;
 
 fn write_quote(rt: &impl Print, s: &[u8]) -> io::Result<()> {
     let mut text = [0u8; 25743];
@@ -40,11 +22,10 @@ fn quote_next(rt: &impl Print, input: &mut impl Read, scene: &mut [u8]) -> io::R
 
 // Whether there was a scene.
 fn one(rt: &impl Print, input: &mut impl Read) -> io::Result<bool> {
-    let mut size = [0u8; 4];
-    if read_full(input, &mut size)? < 4 {
+    let Some(size) = next_word(input)? else {
         return Ok(false);
-    }
-    let n = scene_field::u32_at(&size, 0) as usize;
+    };
+    let n = size as usize;
     if 4097 < n {
         return Ok(false);
     }
@@ -55,7 +36,7 @@ fn one(rt: &impl Print, input: &mut impl Read) -> io::Result<bool> {
 
 fn main(rt: HostRuntime) -> io::Result<()> {
     let mut scenes = fs::open(&rt, "scenes")?;
-    for _ in 0u32..100000 {
+    for _ in 0..100000 {
         if !one(&rt, &mut scenes)? {
             return Ok(());
         }

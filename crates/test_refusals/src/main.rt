@@ -3,88 +3,82 @@
 
 #![tactic(auto)]
 
-ghost use Rattle.std.specs.Prelude.{◌≡◌, ◌≤◌, length, IfOk, IfErr};
-ghost use Rattle.std.specs.Io.{ReadsAtMost};
+ghost use Rattle.std.specs.Prelude.{◌≡◌, ◌+◌, ◌≤◌, length, IfOk, IfErr, IfSome};
 
-use refusal::refusal_number;
-use scene::scenes::Checked;
+use input::read_full;
+use refusal::Refused;
 use scene_check::check_scene;
 use std::io::Read;
 use std::{fs, io};
-use test_words::Next;
+use test_words::next_word;
+
+// What a piece of a scene is made of.
+#[derive(Clone, Copy)]
+enum Kind {
+    // Bytes of the file.
+    Bytes,
+    // Bytes that stand before it.
+    Again,
+    // Numbers, each larger than the one before by the same step.
+    Steps,
+}
+
+impl From<u32> for Kind {
+    fn from(number: u32) -> Kind {
+        match number {
+            0 => Kind::Bytes,
+            1 => Kind::Again,
+            _ => Kind::Steps,
+        }
+    }
+}
 
 // A piece of a scene: its kind and three numbers.
 #[derive(Clone, Copy)]
 struct Piece {
-    kind: u32,
+    kind: Kind,
     count: u32,
     first: u32,
     step: u32,
 }
 
-#[derive(Clone, Copy)]
-enum Found {
-    Piece(Piece),
-    Nothing,
-}
-
-// Reads until `to` is full or the input ends, and answers how many bytes it put at the start of
-// `to`.
-fn read_full(input: &mut impl Read, to: &mut [u8]) -> io::Result<usize>
-    ensures ok { ReadsAtMost result to.new }
-    ensures err { IfErr result (λ e. length to.new ≡ length to.old) }
-{
-    let mut done = 0;
-    while done < to.len() {
-        let n = input.read(&mut to[done..])?;
-        if n == 0 {
-            break;
-        }
-        done += n;
-    }
-    Ok(done)
-}
-
-fn next_word(input: &mut impl Read) -> io::Result<Next> {
-    let mut four = [0u8; 4];
-    let n = read_full(input, &mut four)?;
-    Ok(test_words::word(&four, n))
-}
-
-fn next_piece(input: &mut impl Read) -> io::Result<Found> {
-    let Next::Word(kind) = next_word(input)? else {
-        return Ok(Found::Nothing);
+fn next_piece(input: &mut impl Read) -> io::Result<Option<Piece>> {
+    let Some(kind) = next_word(input)? else {
+        return Ok(None);
     };
-    let Next::Word(count) = next_word(input)? else {
-        return Ok(Found::Nothing);
+    let Some(count) = next_word(input)? else {
+        return Ok(None);
     };
-    let Next::Word(first) = next_word(input)? else {
-        return Ok(Found::Nothing);
+    let Some(first) = next_word(input)? else {
+        return Ok(None);
     };
-    let Next::Word(step) = next_word(input)? else {
-        return Ok(Found::Nothing);
+    let Some(step) = next_word(input)? else {
+        return Ok(None);
     };
-    Ok(Found::Piece(Piece {
-        kind,
+    Ok(Some(Piece {
+        kind: Kind::from(kind),
         count,
         first,
         step,
     }))
 }
 
+// The place behind n more bytes, where there is room for them.
+fn end_of(room: usize, at: usize, n: usize) -> Option<usize>
+    ensures { IfSome result (λ end. (end ≡ at + n) × (end ≤ room)) }
+{
+    at.checked_add(n).filter(|end| *end <= room)
+}
+
 // The next n bytes of the file, from place `at` on. Each of these answers the place behind what it
-// wrote; where that does not fit it writes nothing and answers 0.
+// wrote; where that does not fit it writes nothing and answers 0, where the next piece then stands.
 fn put_bytes(input: &mut impl Read, to: &mut [u8], at: usize, n: usize) -> io::Result<usize>
     ensures ok { IfOk result (λ end. end ≤ length to.old) }
     ensures err { IfErr result (λ e. length to.new ≡ length to.old) }
 {
-    if to.len() < at {
+    let Some(end) = end_of(to.len(), at, n) else {
         return Ok(0);
-    }
-    if to.len() - at < n {
-        return Ok(0);
-    }
-    let end = at + n;
+    };
     read_full(input, &mut to[at..end])?;
     Ok(end)
 }
@@ -93,70 +87,43 @@ fn put_bytes(input: &mut impl Read, to: &mut [u8], at: usize, n: usize) -> io::R
 fn put_again(to: &mut [u8], at: usize, n: usize, back: usize) -> usize
     ensures { result ≤ length to.old }
 {
-    if to.len() < at {
+    let Some(end) = end_of(to.len(), at, n) else {
         return 0;
-    }
-    if to.len() - at < n {
-        return 0;
-    }
+    };
     if at < back {
         return 0;
     }
-    let end = at + n;
-    let mut i = at;
-    while i < end {
+    for i in at..end {
         let b = to[i - back];
         to[i] = b;
-        i += 1;
     }
     end
 }
 
-fn put_word(to: &mut [u8], at: usize, w: u32) {
-    if to.len() < 4 {
-        return;
-    }
-    if to.len() - 4 < at {
-        return;
-    }
-    to[at] = (w % 256) as u8;
-    to[at + 1] = (w / 256 % 256) as u8;
-    to[at + 2] = (w / 65536 % 256) as u8;
-    to[at + 3] = (w / 16777216) as u8;
-}
-
 // n numbers of four bytes: `first`, and each next one larger by `step`.
-fn put_steps(to: &mut [u8], at: usize, n: usize, first: u32, step: u32) -> usize
+fn put_steps(to: &mut [u8], at: usize, n: u32, first: u32, step: u32) -> usize
     ensures { result ≤ length to.old }
 {
-    if to.len() < at {
+    let Some(end) = end_of(to.len(), at, 4 * (n as usize)) else {
         return 0;
-    }
-    if (to.len() - at) / 4 < n {
-        return 0;
-    }
+    };
     let mut w = first;
-    let mut k = 0;
-    while k < n {
-        put_word(to, at + 4 * k, w);
-        w = std::num::wrapping_add_u32(w, step);
-        k += 1;
+    for four in to[at..end].chunks_exact_mut(4) {
+        four.copy_from_slice(&w.to_le_bytes());
+        w = w.wrapping_add(step);
     }
-    at + 4 * n
+    end
 }
 
 fn put_piece(input: &mut impl Read, to: &mut [u8], at: usize, p: Piece) -> io::Result<usize>
     ensures ok { IfOk result (λ end. end ≤ length to.old) }
     ensures err { IfErr result (λ e. length to.new ≡ length to.old) }
 {
-    let n = p.count as usize;
-    if p.kind == 0 {
-        return put_bytes(input, to, at, n);
+    match p.kind {
+        Kind::Bytes => put_bytes(input, to, at, p.count as usize),
+        Kind::Again => Ok(put_again(to, at, p.count as usize, p.first as usize)),
+        Kind::Steps => Ok(put_steps(to, at, p.count, p.first, p.step)),
     }
-    if p.kind == 1 {
-        return Ok(put_again(to, at, n, p.first as usize));
-    }
-    Ok(put_steps(to, at, n, p.first, p.step))
 }
 
 // The length of the scene that the pieces make.
@@ -165,36 +132,24 @@ fn put_scene(input: &mut impl Read, to: &mut [u8], pieces: u32) -> io::Result<us
     ensures err { IfErr result (λ e. length to.new ≡ length to.old) }
 {
     let mut at = 0;
-    let mut k = 0;
-    while k < pieces {
-        let Found::Piece(p) = next_piece(input)? else {
+    for _ in 0..pieces {
+        let Some(p) = next_piece(input)? else {
             return Ok(0);
         };
         at = put_piece(input, to, at, p)?;
-        k += 1;
     }
     Ok(at)
 }
 
-fn write(rt: &impl Print, text: &[u8]) -> io::Result<()> {
-    rt.write_all(text)
-}
-
-fn say(rt: &impl Print, c: Checked) -> io::Result<()> {
-    match c {
-        Checked::Accepted(n) => {
-            write(rt, b": accepted ")?;
-            print!(rt; "{n}")?;
-        }
-        Checked::Refused(f, object) => {
-            write(rt, b": refused ")?;
-            let number = refusal_number(f);
-            print!(rt; "{number}")?;
-            write(rt, b" object ")?;
-            print!(rt; "{object}")?;
+fn say(rt: &impl Print, checked: Result<u32, Refused>) -> io::Result<()> {
+    match checked {
+        Ok(n) => println!(rt; ": accepted {n}"),
+        Err(refused) => {
+            let number = u32::from(refused.refusal);
+            let object = refused.object;
+            println!(rt; ": refused {number} object {object}")
         }
     }
-    write(rt, b"\n")
 }
 
 // One scene: whether there was one.
@@ -204,39 +159,27 @@ fn one(
     label: &mut [u8],
     to: &mut [u8],
 ) -> io::Result<bool> {
-    let Next::Word(size) = next_word(input)? else {
+    let Some(size) = next_word(input)? else {
         return Ok(false);
     };
-    let Next::Word(pieces) = next_word(input)? else {
+    let Some(pieces) = next_word(input)? else {
         return Ok(false);
     };
     let named = put_bytes(input, label, 0, size as usize)?;
-    write(rt, &label[..named])?;
+    rt.write_all(&label[..named])?;
     let end = put_scene(input, to, pieces)?;
     say(rt, check_scene(&to[..end]))?;
     Ok(true)
-}
-
-// The arrays come by reference to arrays, whose length their type tells.
-fn all(
-    rt: &impl Print,
-    input: &mut impl Read,
-    label: &mut [u8; 64],
-    to: &mut [u8; 1048576],
-) -> io::Result<()> {
-    let mut turns: u32 = 0;
-    while turns < 100000 {
-        if !one(rt, input, label, to)? {
-            return Ok(());
-        }
-        turns += 1;
-    }
-    Ok(())
 }
 
 fn main(rt: HostRuntime) -> io::Result<()> {
     let mut scenes = fs::open(&rt, "scenes")?;
     let mut label = [0u8; 64];
     let mut to = [0u8; 1048576];
-    all(&rt, &mut scenes, &mut label, &mut to)
+    for _ in 0..100000 {
+        if !one(&rt, &mut scenes, &mut label, &mut to)? {
+            return Ok(());
+        }
+    }
+    Ok(())
 }

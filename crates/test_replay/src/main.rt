@@ -5,210 +5,82 @@
 
 #![tactic(auto)]
 
-ghost use Rattle.std.specs.Prelude.{◌≡◌, ◌≤◌, length, IfErr};
-ghost use Rattle.std.specs.Io.{ReadsAtMost};
-
+use input::read_full;
 use mesh_answer::Counted;
 use std::io::Read;
+use std::num::f32_to_bits_with_nan;
 use std::{fs, io};
-use test_words::Next;
-use validate::{Validation, Verdict};
-
-fn place(x: u32) -> usize {
-    x as usize
-}
-
-// Reads until `to` is full or the input ends, and answers how many bytes it put at the start of
-// `to`.
-fn read_full(input: &mut impl Read, to: &mut [u8]) -> io::Result<usize>
-    ensures ok { ReadsAtMost result to.new }
-    ensures err { IfErr result (λ e. length to.new ≡ length to.old) }
-{
-    let mut done = 0;
-    while done < to.len() {
-        let n = input.read(&mut to[done..])?;
-        if n == 0 {
-            break;
-        }
-        done += n;
-    }
-    Ok(done)
-}
-
-fn next_word(input: &mut impl Read) -> io::Result<Next> {
-    let mut four = [0u8; 4];
-    let n = read_full(input, &mut four)?;
-    Ok(test_words::word(&four, n))
-}
-
-fn write(rt: &impl Print, text: &[u8]) -> io::Result<()> {
-    rt.write_all(text)
-}
-
-fn write_number(rt: &impl Print, n: u32) -> io::Result<()> {
-    write(rt, b" ")?;
-    print!(rt; "{n}")
-}
-
-fn write_hash(rt: &impl Print, h: u64) -> io::Result<()> {
-    write(rt, b" ")?;
-    print!(rt; "{h:016x}")
-}
-
-// h times the prime 2^40 + 0x1b3, modulo 2^64.
-fn times_prime(h: u64) -> u64 {
-    let high = (h % 0x100_0000) * 0x100_0000_0000;
-    let low = h % 0x1_0000_0000 * 0x1b3;
-    let middle = h / 0x1_0000_0000 * 0x1b3 % 0x1_0000_0000 * 0x1_0000_0000;
-    std::num::wrapping_add_u64(std::num::wrapping_add_u64(high, middle), low)
-}
-
-fn with_byte(h: u64, b: u32) -> u64 {
-    times_prime(h ^ b as u64)
-}
-
-// The hash with the four bytes of a word, the lowest first.
-fn with_word(h: u64, w: u32) -> u64 {
-    let a = with_byte(h, w % 256);
-    let b = with_byte(a, w / 256 % 256);
-    let c = with_byte(b, w / 65536 % 256);
-    with_byte(c, w / 16777216)
-}
-
-// The hash with the eight bytes of a 64-bit word, the lowest first.
-fn with_long(h: u64, w: u64) -> u64 {
-    let a = times_prime(h ^ w % 256);
-    let b = times_prime(a ^ w / 0x100 % 256);
-    let c = times_prime(b ^ w / 0x1_0000 % 256);
-    let d = times_prime(c ^ w / 0x100_0000 % 256);
-    let e = times_prime(d ^ w / 0x1_0000_0000 % 256);
-    let f = times_prime(e ^ w / 0x100_0000_0000 % 256);
-    let g = times_prime(f ^ w / 0x1_0000_0000_0000 % 256);
-    times_prime(g ^ w / 0x100_0000_0000_0000)
-}
-
-// The bits of x in two's complement: below 0, those of -(x + 1) turned.
-fn long_bits(x: i64) -> u64 {
-    if x >= 0 {
-        x as u64
-    } else {
-        ((0 - (x + 1)) as u64) ^ 0xffff_ffff_ffff_ffff
-    }
-}
-
-fn bits(x: f32) -> u32 {
-    if x != x {
-        return 0x7fc0_0000;
-    }
-    f32::to_bits(x)
-}
+use test_words::next_word;
+use validate::{MeshError, Validation};
 
 const START: u64 = 0xcbf2_9ce4_8422_2325;
 
-fn hash_floats(s: &[f32]) -> u64 {
-    let mut h = START;
-    let mut k = 0;
-    while k < s.len() {
-        h = with_word(h, bits(s[k]));
-        k = k + 1;
-    }
-    h
+const PRIME: u64 = 0x100_0000_01b3;
+
+// The hash with some bytes more.
+fn with_bytes(h: u64, bytes: &[u8]) -> u64 {
+    bytes
+        .iter()
+        .fold(h, |h, b| (h ^ u64::from(*b)).wrapping_mul(PRIME))
 }
 
-fn hash_numbers(s: &[u32]) -> u64 {
-    let mut h = START;
-    let mut k = 0;
-    while k < s.len() {
-        h = with_word(h, s[k]);
-        k = k + 1;
-    }
-    h
+// What is hashed by its bytes, the lowest first.
+trait Hashed: Copy {
+    // The hash with the bytes of one more.
+    fn with(self, h: u64) -> u64;
 }
 
-fn hash_longs(s: &[i64]) -> u64 {
-    let mut h = START;
-    let mut k = 0;
-    while k < s.len() {
-        h = with_long(h, long_bits(s[k]));
-        k = k + 1;
+impl Hashed for u32 {
+    fn with(self, h: u64) -> u64 {
+        with_bytes(h, &self.to_le_bytes())
     }
-    h
+}
+
+// The pattern of an f32: of each NaN the same one.
+impl Hashed for f32 {
+    fn with(self, h: u64) -> u64 {
+        f32_to_bits_with_nan(self).with(h)
+    }
+}
+
+impl Hashed for i64 {
+    fn with(self, h: u64) -> u64 {
+        with_bytes(h, &self.to_le_bytes())
+    }
+}
+
+fn hash<T: Hashed>(s: &[T]) -> u64 {
+    s.iter().fold(START, |h, x| x.with(h))
 }
 
 // The hash of the first n.
-fn write_floats(rt: &impl Print, s: &[f32], n: usize) -> io::Result<()> {
-    if n <= s.len() {
-        write_hash(rt, hash_floats(&s[..n]))?;
+fn write_hash<T: Hashed>(rt: &impl Print, s: &[T], n: u32) -> io::Result<()> {
+    if let Some(written) = s.get(..n as usize) {
+        let h = hash(written);
+        print!(rt; " {h:016x}")?;
     }
     Ok(())
 }
 
-fn write_numbers(rt: &impl Print, s: &[u32], n: usize) -> io::Result<()> {
-    if n <= s.len() {
-        write_hash(rt, hash_numbers(&s[..n]))?;
+// What follows the hashes.
+fn verdict_word(validation: Validation) -> &'static str {
+    match validation {
+        Ok(Ok(())) => "ok",
+        Ok(Err(MeshError::Empty)) => "empty",
+        Ok(Err(_)) => "other",
+        Err(_) => "other",
     }
-    Ok(())
-}
-
-fn write_longs(rt: &impl Print, s: &[i64], n: usize) -> io::Result<()> {
-    if n <= s.len() {
-        write_hash(rt, hash_longs(&s[..n]))?;
-    }
-    Ok(())
-}
-
-fn write_verdict(rt: &impl Print, v: Validation) -> io::Result<()> {
-    if let Validation::Judged(w) = v {
-        if let Verdict::Ok = w {
-            return write(rt, b" ok\n");
-        }
-        if let Verdict::Empty = w {
-            return write(rt, b" empty\n");
-        }
-    }
-    write(rt, b" other\n")
-}
-
-fn refuse(rt: &impl Print, number: u32, object: u32) -> io::Result<()> {
-    write(rt, b"refused")?;
-    write_number(rt, number)?;
-    write_number(rt, object)?;
-    write(rt, b"\n")
-}
-
-fn bytes() -> [u8; 4096]
-    ensures { 4096 ≡ length result }
-{
-    [0; 4096]
-}
-
-fn floats() -> [f32; 24576]
-    ensures { 24576 ≡ length result }
-{
-    [0.0; 24576]
-}
-
-fn longs() -> [i64; 24576]
-    ensures { 24576 ≡ length result }
-{
-    [0; 24576]
-}
-
-fn numbers() -> [u32; 36864]
-    ensures { 36864 ≡ length result }
-{
-    [0; 36864]
 }
 
 fn write_counts(rt: &impl Print, c: Counted) -> io::Result<()> {
-    write(rt, b"ok")?;
-    write_number(rt, c.vertices)?;
-    write_number(rt, c.normals)?;
-    write_number(rt, c.indices)?;
-    write_number(rt, c.spans)?;
-    write_number(rt, c.account)?;
-    write_number(rt, c.log)?;
-    write_number(rt, c.millimetres)
+    let vertices = c.vertices;
+    let normals = c.normals;
+    let indices = c.indices;
+    let spans = c.spans;
+    let account = c.account;
+    let log = c.log;
+    let millimetres = c.millimetres;
+    print!(rt; "ok {vertices} {normals} {indices} {spans} {account} {log} {millimetres}")
 }
 
 fn write_mesh(
@@ -218,9 +90,9 @@ fn write_mesh(
     normals: &[f32],
     indices: &[u32],
 ) -> io::Result<()> {
-    write_floats(rt, vertices, place(c.vertices))?;
-    write_floats(rt, normals, place(c.normals))?;
-    write_numbers(rt, indices, place(c.indices))
+    write_hash(rt, vertices, c.vertices)?;
+    write_hash(rt, normals, c.normals)?;
+    write_hash(rt, indices, c.indices)
 }
 
 fn write_records(
@@ -230,20 +102,20 @@ fn write_records(
     account: &[u32],
     log: &[u32],
 ) -> io::Result<()> {
-    write_numbers(rt, spans, place(c.spans))?;
-    write_numbers(rt, account, place(c.account))?;
-    write_numbers(rt, log, place(c.log))
+    write_hash(rt, spans, c.spans)?;
+    write_hash(rt, account, c.account)?;
+    write_hash(rt, log, c.log)
 }
 
 // One scene, with buffers for every scene of at most 4,096 bytes.
 fn replay(rt: &impl Print, s: &[u8]) -> io::Result<()> {
-    let mut vertices = floats();
-    let mut normals = floats();
-    let mut indices = numbers();
-    let mut spans = numbers();
-    let mut account = numbers();
-    let mut log = numbers();
-    let mut millimetres = longs();
+    let mut vertices = [0.0f32; 24576];
+    let mut normals = [0.0f32; 24576];
+    let mut indices = [0u32; 36864];
+    let mut spans = [0u32; 36864];
+    let mut account = [0u32; 36864];
+    let mut log = [0u32; 36864];
+    let mut millimetres = [0i64; 24576];
     let r = mesh_build_and_validate::build_and_validate(
         s,
         &mut vertices,
@@ -254,18 +126,21 @@ fn replay(rt: &impl Print, s: &[u8]) -> io::Result<()> {
         &mut log,
         &mut millimetres,
     );
-    let answer = r.answer;
-    let validation = r.validation;
-    let a = answer.numbers();
-    if a.refusal != 0 {
-        return refuse(rt, a.refusal, a.object);
+    match r.answer {
+        Err(refused) => {
+            let number = u32::from(refused.refusal);
+            let object = refused.object;
+            println!(rt; "refused {number} {object}")
+        }
+        Ok(c) => {
+            write_counts(rt, c)?;
+            write_mesh(rt, c, &vertices, &normals, &indices)?;
+            write_records(rt, c, &spans, &account, &log)?;
+            write_hash(rt, &millimetres, c.millimetres)?;
+            let word = verdict_word(r.validation);
+            println!(rt; " {word}")
+        }
     }
-    let c = a.counts;
-    write_counts(rt, c)?;
-    write_mesh(rt, c, &vertices, &normals, &indices)?;
-    write_records(rt, c, &spans, &account, &log)?;
-    write_longs(rt, &millimetres, place(c.millimetres))?;
-    write_verdict(rt, validation)
 }
 
 // The scene that the next bytes of the file are.
@@ -276,26 +151,24 @@ fn replay_next(rt: &impl Print, input: &mut impl Read, scene: &mut [u8]) -> io::
 
 // Whether there was one.
 fn one(rt: &impl Print, input: &mut impl Read) -> io::Result<bool> {
-    let Next::Word(size) = next_word(input)? else {
+    let Some(size) = next_word(input)? else {
         return Ok(false);
     };
     let n = size as usize;
     if 4096 < n {
         return Ok(false);
     }
-    let mut scene = bytes();
+    let mut scene = [0u8; 4096];
     replay_next(rt, input, &mut scene[..n])?;
     Ok(true)
 }
 
 fn main(rt: HostRuntime) -> io::Result<()> {
     let mut scenes = fs::open(&rt, "scenes")?;
-    let mut turns: u32 = 0;
-    while turns < 100000 {
+    for _ in 0..100000 {
         if !one(&rt, &mut scenes)? {
             return Ok(());
         }
-        turns = turns + 1;
     }
     Ok(())
 }

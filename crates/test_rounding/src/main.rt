@@ -5,59 +5,21 @@
 
 #![tactic(auto)]
 
-ghost use Rattle.std.specs.Prelude.{◌≡◌, length, IfErr};
-ghost use Rattle.std.specs.Io.{ReadsAtMost};
-
 use std::io::Read;
 use std::{fs, io};
-use test_words::Next;
-
-// Reads until `to` is full or the input ends, and answers how many bytes it put at the start of
-// `to`.
-fn read_full(input: &mut impl Read, to: &mut [u8]) -> io::Result<usize>
-    ensures ok { ReadsAtMost result to.new }
-    ensures err { IfErr result (λ e. length to.new ≡ length to.old) }
-{
-    let mut done = 0;
-    while done < to.len() {
-        let n = input.read(&mut to[done..])?;
-        if n == 0 {
-            break;
-        }
-        done += n;
-    }
-    Ok(done)
-}
-
-fn next_word(input: &mut impl Read) -> io::Result<Next> {
-    let mut four = [0u8; 4];
-    let n = read_full(input, &mut four)?;
-    Ok(test_words::word(&four, n))
-}
-
-fn write(rt: &impl Print, text: &[u8]) -> io::Result<()> {
-    rt.write_all(text)
-}
-
-fn write_number(rt: &impl Print, n: u64) -> io::Result<()> {
-    print!(rt; "{n}")
-}
-
-fn wide(x: u32) -> u64 {
-    x as u64
-}
+use test_words::next_word;
 
 fn write_pattern(rt: &impl Print, x: f32) -> io::Result<()> {
-    if x != x {
-        return write(rt, b"nan\n");
+    if x.is_nan() {
+        return println!(rt; "nan");
     }
-    write_number(rt, wide(f32::to_bits(x)))?;
-    write(rt, b"\n")
+    let pattern = x.to_bits();
+    println!(rt; "{pattern}")
 }
 
 // Whether there was one.
 fn root(rt: &impl Print, input: &mut impl Read) -> io::Result<bool> {
-    let Next::Word(bits) = next_word(input)? else {
+    let Some(bits) = next_word(input)? else {
         return Ok(false);
     };
     write_pattern(rt, float_sqrt::sqrt(test_words::float(bits)))?;
@@ -65,13 +27,13 @@ fn root(rt: &impl Print, input: &mut impl Read) -> io::Result<bool> {
 }
 
 fn narrowing(rt: &impl Print, input: &mut impl Read) -> io::Result<bool> {
-    let Next::Word(low) = next_word(input)? else {
+    let Some(low) = next_word(input)? else {
         return Ok(false);
     };
-    let Next::Word(high) = next_word(input)? else {
+    let Some(high) = next_word(input)? else {
         return Ok(false);
     };
-    let bits = (high as u64) * 0x1_0000_0000 + (low as u64);
+    let bits = u64::from(high) << 32 | u64::from(low);
     write_pattern(rt, float_narrow::narrow(test_words::double(bits)))?;
     Ok(true)
 }
@@ -80,14 +42,12 @@ fn main(rt: HostRuntime) -> io::Result<()> {
     let mut roots = fs::open(&rt, "roots")?;
     let mut narrowings = fs::open(&rt, "narrowings")?;
     let mut more = true;
-    let mut turns: u32 = 0;
-    while turns < 100000 {
+    for _ in 0..100000 {
         if more {
             more = root(&rt, &mut roots)?;
         } else if !narrowing(&rt, &mut narrowings)? {
             return Ok(());
         }
-        turns = turns + 1;
     }
     Ok(())
 }

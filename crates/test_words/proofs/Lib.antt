@@ -1,1 +1,1 @@
-pub mod NoNumber
+pub mod NextWord

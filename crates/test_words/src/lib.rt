@@ -2,44 +2,45 @@
 
 #![tactic(auto)]
 
-ghost use Rattle.std.specs.Prelude.{◌≡◌};
+ghost use Rattle.std.specs.Prelude.{◌≡◌, length, IfOk, IfSome};
 ghost use Rattle.std.specs.Float.{binary32, binary64};
 ghost use Rattle.std.specs.Float.Ieee.{of_bits};
 ghost use Rattle.test_words.specs.Words.{word_of};
 
-#[derive(Clone, Copy)]
-pub enum Next {
-    Word(u32),
-    End,
-}
+use std::io;
+use std::io::Read;
+use std::num::{f32_from_bits_with_nan, f64_from_bits_with_nan};
 
 // The word in four bytes, the lowest first, of which n were read.
-pub fn word(four: &[u8], n: usize) -> Next
+pub fn word(four: &[u8], n: usize) -> Option<u32>
     ensures { result ≡ word_of four.now n }
 {
     let whole = 4;
     if n < whole {
-        return Next::End;
+        return None;
     }
-    Next::Word(scene_field::u32_at(four, 0))
+    Some(scene_field::u32_at(four, 0))
 }
 
-// The f32 with these bits.
+// The word that the next four bytes of the input are, where it has so many.
+pub fn next_word<R: Read>(input: &mut R) -> io::Result<Option<u32>>
+    ensures { IfOk result (λ next. IfSome (R.remaining input.old) (λ bytes. next ≡ word_of bytes (length bytes))) }
+{
+    let mut four = [0u8; 4];
+    let n = input::read_full(input, &mut four)?;
+    Ok(word(&four, n))
+}
+
+// The f32 with these bits. Of two widths, one call of the library each: one generic function is no plainer.
 pub fn float(bits: u32) -> f32
     ensures { result ≡ of_bits binary32 bits }
 {
-    if bits % 0x8000_0000 <= 0x7f80_0000 {
-        return f32::from_bits(bits);
-    }
-    0.0 / 0.0
+    f32_from_bits_with_nan(bits)
 }
 
 // The f64 with these bits.
 pub fn double(bits: u64) -> f64
     ensures { result ≡ of_bits binary64 bits }
 {
-    if bits % 0x8000_0000_0000_0000 <= 0x7ff0_0000_0000_0000 {
-        return f64::from_bits(bits);
-    }
-    0.0 / 0.0
+    f64_from_bits_with_nan(bits)
 }

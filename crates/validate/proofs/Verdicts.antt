@@ -9,15 +9,14 @@ use lib.Dec.{T, leb, eqb, leb→le, eqb→eq, T_not}
 use lib.Ieee.{Float, nan, inf, fin}
 use lib.Ieee.Fits.{and_i}
 use lib.Ieee.Scale.{finite}
-use Rattle.lists.specs.declared.Found.{Found}
-use Rattle.lists.specs.declared.Found.TheVariants.{Nowhere}
+use Rattle.std.specs.Prelude.{Option, None, Ok, Err}
 use Rattle.lists.specs.Loops.{first}
 use Rattle.lists.specs.Each.{Each}
 use Rattle.float.specs.Number.{is_finite}
 use Rattle.coords.specs.declared.Point.{Point}
 use Rattle.coords.specs.Coords.{origin, no_area, finite_point}
-use Rattle.validate.specs.declared.Verdict.{Verdict}
-use Rattle.validate.specs.declared.Verdict.TheVariants.{Ok, Empty}
+use Rattle.validate.specs.declared.MeshError.TheVariants.{Empty}
+use Rattle.validate.specs.Verdict.{Verdict}
 use Rattle.validate.specs.Validate.{degenerate, triangles_from, not_finite, verdict_at, verdict}
 use Rattle.lists.proofs.Lists.{each_get_d}
 use Rattle.coords.proofs.Near.{NearP, origin_near}
@@ -56,7 +55,7 @@ module _ (limit : Float) (above : Above limit) where
     in_range : (a : ℕ) → a < size ps → T (leb (size ps) a) → ⊥
     in_range a h t = not-le_of_lt h (leb→le (size ps) a t)
 
-    triangles_ok : (t : ℕ) (is : List ℕ) → AllGoodP limit ps is → triangles_from limit ps t is ≡ Ok
+    triangles_ok : (t : ℕ) (is : List ℕ) → AllGoodP limit ps is → triangles_from limit ps t is ≡ Ok tt
     unfolding triangles_from
     triangles_ok t [] g = refl
     triangles_ok t (a ∷ []) g = absurd g
@@ -82,13 +81,13 @@ module _ (limit : Float) (above : Above limit) where
     not_not true t u = u
     not_not false t u = t
 
-    first_none : (m k : ℕ) → first (not_finite ps) m k ≡ Nowhere
+    first_none : (m k : ℕ) → first (not_finite ps) m k ≡ None
     unfolding first
     first_none zero k = refl
     first_none (suc m) k = cond_no (not (finite_point (get_or ps k origin))) _ _ (not_not (finite_point (get_or ps k origin)) (finite_place (get_or ps k origin) (place k))) ∙ first_none m (suc k)
 
-    pub verdict_good : (is : List ℕ) → AllGoodP limit ps is → verdict limit ps is ≡ cond (eqb (size is) 0) Empty Ok
+    pub verdict_good : (is : List ℕ) → AllGoodP limit ps is → verdict limit ps is ≡ cond (eqb (size is) 0) (Err Empty) (Ok tt)
     unfolding verdict verdict_at
     verdict_good is g =
-        ap (λ (f : Found). cond (eqb (size is) 0) Empty (verdict_at f (triangles_from limit ps 0 is))) (first_none (size ps) 0)
-        ∙ ap (λ (v : Verdict). cond (eqb (size is) 0) Empty v) (triangles_ok 0 is g)
+        ap (λ (f : Option ℕ). cond (eqb (size is) 0) (Err Empty) (verdict_at f (triangles_from limit ps 0 is))) (first_none (size ps) 0)
+        ∙ ap (λ (v : Verdict). cond (eqb (size is) 0) (Err Empty) v) (triangles_ok 0 is g)

@@ -5,11 +5,11 @@
 ghost use Rattle.std.specs.Prelude.{◌≡◌};
 ghost use Rattle.validate.specs.Numbers.{judgement, verdict_numbers, validation_numbers};
 
-use refusal::{Refusal, refusal_number};
+use refusal::Refusal;
 
-#[derive(Clone, Copy)]
-pub enum Verdict {
-    Ok,
+// Why a mesh cannot back a physics collider.
+#[derive(Clone, Copy, Debug, PartialEq, Eq)]
+pub enum MeshError {
     // No triangles at all.
     Empty,
     // A vertex with a NaN or an infinity.
@@ -20,12 +20,10 @@ pub enum Verdict {
     DegenerateTriangle(usize),
 }
 
+pub type Verdict = Result<(), MeshError>;
+
 // What Validate answers: a verdict, or by which row the call is refused.
-#[derive(Clone, Copy)]
-pub enum Validation {
-    Judged(Verdict),
-    Refused(Refusal),
-}
+pub type Validation = Result<Verdict, Refusal>;
 
 // A validation in numbers: `validation_numbers` of specs/Numbers.antt gives them for each case.
 #[repr(C)]
@@ -52,29 +50,31 @@ impl Judgement {
             count,
         }
     }
-}
 
-impl Verdict {
-    fn numbers(self) -> Judgement
-        ensures { result ≡ verdict_numbers self }
+    #[tactic(auto, unfolding(crate::specs::Numbers::verdict_numbers))]
+    fn of_verdict(verdict: Verdict) -> Judgement
+        ensures { result ≡ verdict_numbers verdict }
     {
-        match self {
-            Verdict::Ok => Judgement::new(0, 0, 0, 0, 0),
-            Verdict::Empty => Judgement::new(0, 1, 0, 0, 0),
-            Verdict::NonFiniteVertex(i) => Judgement::new(0, 2, 0, i as u64, 0),
-            Verdict::IndexOutOfRange(t, i, n) => Judgement::new(0, 3, i, t as u64, n as u64),
-            Verdict::DegenerateTriangle(t) => Judgement::new(0, 4, 0, t as u64, 0),
+        match verdict {
+            Ok(()) => Judgement::new(0, 0, 0, 0, 0),
+            Err(MeshError::Empty) => Judgement::new(0, 1, 0, 0, 0),
+            Err(MeshError::NonFiniteVertex(i)) => Judgement::new(0, 2, 0, i as u64, 0),
+            Err(MeshError::IndexOutOfRange(t, i, n)) => {
+                Judgement::new(0, 3, i, t as u64, n as u64)
+            }
+            Err(MeshError::DegenerateTriangle(t)) => Judgement::new(0, 4, 0, t as u64, 0),
         }
     }
 }
 
-impl Validation {
-    pub fn numbers(self) -> Judgement
-        ensures { result ≡ validation_numbers self }
-    {
-        match self {
-            Validation::Judged(v) => v.numbers(),
-            Validation::Refused(f) => Judgement::new(refusal_number(f), 0, 0, 0, 0),
+impl From<Validation> for Judgement {
+    ghost from_gives = { λ validation judgement. judgement ≡ validation_numbers validation };
+
+    #[tactic(auto, unfolding(crate::specs::Numbers::validation_numbers))]
+    fn from(validation: Validation) -> Judgement {
+        match validation {
+            Ok(verdict) => Judgement::of_verdict(verdict),
+            Err(f) => Judgement::new(u32::from(f), 0, 0, 0, 0),
         }
     }
 }

@@ -9,10 +9,11 @@ use lib.ListN.{length}
 use lib.Dec.{T}
 use lib.Ieee.{Float}
 use lib.Ieee.Bits.{is_true}
-use Rattle.lists.specs.declared.Found.{Found}
+use Rattle.std.specs.Prelude.{Option}
 use Rattle.lists.specs.Loops.{every, list}
 use Rattle.lists.proofs.Lists.{every_list}
 use Rattle.lists.proofs.Loops.{first_skip}
+use Rattle.coords.specs.declared.Point.{Point}
 use Rattle.coords.specs.Coords.{finite_point}
 use Rattle.coords.specs.Buffers.{vertex_at, vertices_in}
 use Rattle.validate.specs.Faults.{not_finite}
@@ -35,10 +36,13 @@ module _ (xs : List Float) where
   below_length {k} h = subst (λ (n : ℕ). k < n) (sym (length_vertices xs)) h
 
   -- a vertex's test is made on the buffer's numbers
-  pub tested : (k : ℕ) → k < length xs / 3 → not_finite (vertices_in xs) k ≡ not (finite_point (vertex_at xs k))
+  tested : (k : ℕ) → k < length xs / 3 → not_finite (vertices_in xs) k ≡ not (finite_point (vertex_at xs k))
   tested k h = ap (λ p. not (finite_point p)) (sym (vertex_in xs k h))
 
-  pub four_passed : (k : ℕ) (t : Found) → k + 3 < length xs / 3 → every finite_point (list (vertex_at xs) 4 k) ≡ true → not_finite_from (vertices_in xs) k ≡ t → not_finite_from (vertices_in xs) (k + 4) ≡ t
+  pub test_is : (k : ℕ) {p : Point} {b : Bool} → k < length xs / 3 → p ≡ vertex_at xs k → b ≡ finite_point p → not_finite (vertices_in xs) k ≡ not b
+  test_is k h e f = tested k h ∙ ap not (sym (f ∙ ap finite_point e))
+
+  pub four_passed : (k : ℕ) (t : Option ℕ) → k + 3 < length xs / 3 → every finite_point (list (vertex_at xs) 4 k) ≡ true → not_finite_from (vertices_in xs) k ≡ t → not_finite_from (vertices_in xs) (k + 4) ≡ t
   four_passed k t h e = first_skip (not_finite (vertices_in xs)) (length (vertices_in xs)) 4 k t (omega (arith, length_vertices xs)) passes
     where
       passes : (j : ℕ) → j < 4 → not_finite (vertices_in xs) (k + j) ≡ false

@@ -2,10 +2,10 @@
 use Rattle.std.specs.Prelude.{◌≡◌, ℕ, ◌+◌, ◌*◌, ◌<◌, ◌^◌, List, [], ◌∷◌, length, Float}
 use Rattle.std.proofs.lemmas.List.Edits.{sets}
 use Rattle.lists.specs.Loops.{sum_of}
-use Rattle.lists.specs.Slices.{Slice}
 use Rattle.coords_vector.specs.declared.Vector.{Vector}
 use Rattle.coords.specs.Buffers.{vertex_numbers, normal_numbers, vertices_in}
 use Rattle.face.specs.declared.Tally.{Tally}
+use Rattle.face.specs.declared.Canvas.{Canvas}
 use Rattle.face.specs.Faces.{Face, thin_in, kept_of, write_faces}
 use Rattle.face_triangle.specs.Contract.Triangles.{triangles_in}
 
@@ -40,25 +40,37 @@ drawn limit faces before d =
 pub record Drew (limit : Float) (faces : List Face) (before : ℕ) (d d' : Drawing) : Type 0 where
   pub after : d' ≡ drawn limit faces before d
 
--- The lent slices as a function is called with counts t, and as it returns with counts r; and that it drew the faces into them between.
-abbrev pub at_entry : Tally → Slice Float → Slice Float → Slice ℕ → Drawing
-at_entry t vs ns is = drawing t vs.entry.now ns.entry.now is.entry.now
+-- ---- on a canvas
 
-abbrev pub at_exit : Tally → Slice Float → Slice Float → Slice ℕ → Drawing
-at_exit r vs ns is = drawing r vs.exit.now ns.exit.now is.exit.now
+abbrev pub drawing_on : Canvas → Drawing
+drawing_on c = drawing c.tally c.vertices.now c.normals.now c.indices.now
 
-abbrev pub Draws : Float → List Face → ℕ → Tally → Tally → Slice Float → Slice Float → Slice ℕ → Type 0
-Draws limit faces before t r vs ns is = Drew limit faces before (at_entry t vs ns is) (at_exit r vs ns is)
+-- c' has the buffers that were lent to c, its limit and the vertices before it
+pub record SameLoans (c c' : Canvas) : Type 0 where
+  pub vertices : c'.vertices.ghost_name ≡ c.vertices.ghost_name
+  pub normals : c'.normals.ghost_name ≡ c.normals.ghost_name
+  pub indices : c'.indices.ghost_name ≡ c.indices.ghost_name
+  pub limit : c'.limit ≡ c.limit
+  pub before : c'.before ≡ c.before
+
+-- the faces were drawn on the canvas, which was c and is c'
+pub record Draws (faces : List Face) (c c' : Canvas) : Type 0 where
+  pub drew : Drew c.limit faces c.before (drawing_on c) (drawing_on c')
+  pub same : SameLoans c c'
 
 -- one face, whatever its part is
-abbrev pub DrawsFace : Float → (ℕ → Face) → ℕ → Tally → Tally → Slice Float → Slice Float → Slice ℕ → Type 0
-DrawsFace limit face before t r vs ns is = (part : ℕ) → Draws limit (face part ∷ []) before t r vs ns is
+pub record DrawsFace (face : ℕ → Face) (c c' : Canvas) : Type 0 where
+  pub drew : (part : ℕ) → Drew c.limit (face part ∷ []) c.before (drawing_on c) (drawing_on c')
+  pub same : SameLoans c c'
 
 -- v vertices and k triangles more can be counted: all counts stay below 2 ^ 32
 pub record Countable (before : ℕ) (t : Tally) (v k : ℕ) : Type 0 where
   pub vertices : before + t.vertices + v < 2 ^ 32
   pub kept : t.kept + k < 2 ^ 32
   pub thin : t.thin + k < 2 ^ 32
+
+abbrev pub CountableOn : Canvas → ℕ → ℕ → Type 0
+CountableOn c v k = Countable c.before c.tally v k
 
 -- the face whose points and triangles are lent as numbers, three to one
 abbrev pub face_in : ℕ → List Float → List ℕ → Vector → Face

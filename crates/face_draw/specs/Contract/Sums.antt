@@ -7,8 +7,14 @@ use Rattle.coords_vector.specs.Vectors.{unit_z, normalize_or}
 use Rattle.coords.specs.declared.Point.{Point}
 use Rattle.coords.specs.Buffers.{vertex_numbers, normal_numbers}
 use Rattle.face_judge.specs.declared.Sum.{Sum}
+use Rattle.face_judge.specs.declared.Judge.{Judge}
 use Rattle.face.specs.declared.Tally.{Tally}
+use Rattle.face.specs.declared.Canvas.{Canvas}
 use Rattle.face.specs.Contract.Drawing.{tally}
+
+-- the next face on the canvas: its first vertex and its first kept triangle stand behind all that was counted
+abbrev pub judge_on : Canvas → Vector → Judge
+judge_on c out = record { limit = c.limit; out = out; base = c.before + c.tally.vertices; place = c.tally.kept }
 
 unfoldable pub counted_with : Bool → ℕ → Sum → Tally → Tally
 counted_with none n s t = cond none (tally t.vertices t.kept (t.thin + s.thin)) (tally (t.vertices + n) (t.kept + s.kept) (t.thin + s.thin))

@@ -1,52 +1,40 @@
--- `float_sign::total_less` meets its contract: its tests are those of `total_less`. Assumes nothing.
-use Rattle.std.proofs.Common.{Bool, T, ap, false, le-ltb, leb, leb→le, lt-ltb, ltb, not, refl, subst, sym, true, ℕ, ◌&&◌, ◌<◌, ◌^◌, ◌||◌, ◌∙◌, ◌≡◌, ◌≤◌}
-use lib.Dec.{nleb→lt}
-use lib.Ieee.{Float, binary32, fits, lt, eq, to_bits}
+-- `float_sign::total_less` meets its contract: of two equal numbers neither is less, and of two that differ the signs are not asked. Assumes nothing.
+use Rattle.std.proofs.Common.{Bool, T, false, not, refl, subst, sym, true, ◌&&◌, ◌||◌, ◌≡◌}
+use Rattle.std.specs.Float.Order.{eq-not_lt}
+use mathlib.Core.Bool.{false≢true}
+use lib.Ieee.{Float, lt, eq}
 use Rattle.float.specs.Signs.{negative, total_less}
-use Rattle.float.proofs.Signs.{equal_no_nan, sign_bit, plus, minus}
+use Rattle.float.proofs.Signs.{equal_no_nan}
+use Rattle.float_sign.proofs.Library.{negative_by, positive_by}
 use Rattle.float_sign.proofs.total_less.Goals as goal
-use Rattle.float_sign.proofs.total_less.Goals.{Start}
 
-held_x : (c : Start) → T (fits binary32 c.args.x)
-held_x c = subst T (sym c.well_formed.0.1) tt
-
-held_y : (c : Start) → T (fits binary32 c.args.y)
-held_y c = subst T (sym c.well_formed.1.0.1) tt
-
--- `total_less`, from what its tests give
-by_tests : (x y : Float) (a b c : Bool) → lt x y ≡ a → eq x y ≡ b → negative x ≡ c → (a || (b && (c && not (negative y)))) ≡ total_less x y
+equal : (x y : Float) → eq x y ≡ true → (negative x && not (negative y)) ≡ total_less x y
 unfolding total_less
-by_tests x y a b c p q r =
-    ap (λ (u : Bool). u || (b && (c && not (negative y)))) (sym p)
-    ∙ ap (λ (u : Bool). lt x y || (u && (c && not (negative y)))) (sym q)
-    ∙ ap (λ (u : Bool). lt x y || (eq x y && (u && not (negative y)))) (sym r)
-
-ltb_is : (a b : ℕ) → ltb a b ≡ not (leb b a)
-ltb_is a b = go (leb b a) (leb→le b a) (nleb→lt b a)
+equal x y e = go (lt x y) (eq x y) (negative x && not (negative y)) (eq-not_lt x y (subst T (sym e) tt)) e
   where
-    go : (t : Bool) → (T t → b ≤ a) → (T (not t) → a < b) → ltb a b ≡ not t
-    go true h k = le-ltb a b (h tt)
-    go false h k = lt-ltb a b (k tt)
+    go : (l q p : Bool) → (T l → ⊥) → q ≡ true → p ≡ (l || (q && p))
+    go true q p n e = absurd (n tt)
+    go false true p n e = refl
+    go false false p n e = absurd (false≢true e)
+
+apart : (x y : Float) → eq x y ≡ false → lt x y ≡ total_less x y
+unfolding total_less
+apart x y e = go (lt x y) (eq x y) (negative x && not (negative y)) e
+  where
+    go : (l q p : Bool) → q ≡ false → l ≡ (l || (q && p))
+    go true q p e = refl
+    go false false p e = refl
+    go false true p e = absurd (false≢true (sym e))
+
+pub is_sign_negative-requires : goal.is_sign_negative-requires
+is_sign_negative-requires c = (equal_no_nan c.args.x c.args.y c.if-x-y.true).0
+
+pub is_sign_positive-requires : goal.is_sign_positive-requires
+is_sign_positive-requires c = (equal_no_nan c.args.x c.args.y c.if-x-y.true).1
 
 pub returns-then-x-y : goal.returns-then-x-y
-returns-then-x-y c = let a = c.args in by_tests a.x a.y true (eq a.x a.y) (negative a.x) c.if-x-y.true refl refl
+returns-then-x-y c = let a = c.args in
+    rw (negative_by a.x c.is_sign_negative.ensures, positive_by a.y c.is_sign_positive.ensures) (equal a.x a.y c.if-x-y.true)
 
-pub float_to_bits-x : goal.float_to_bits-x
-float_to_bits-x c = (equal_no_nan c.args.x c.args.y c.if-x-y-2.true).0
-
-pub returns-then-x-lt2147483648 : goal.returns-then-x-lt2147483648
-returns-then-x-lt2147483648 c = let x = c.args.x in
-    by_tests x c.args.y false true false c.if-x-y.false c.if-x-y-2.true (plus binary32 x (held_x c.before.before.before) (float_to_bits-x c.before) c.if-x-lt2147483648.true)
-
-pub float_to_bits-result : goal.float_to_bits-result
-float_to_bits-result c = (equal_no_nan c.args.x c.args.y c.if-x-y-2.true).1
-
-pub returns-then-x-y-2 : goal.returns-then-x-y-2
-returns-then-x-y-2 c = let x = c.args.x in
-    let y = c.args.y in
-    ltb_is (to_bits binary32 y) (2 ^ 31)
-    ∙ ap not (sign_bit binary32 y (held_y c.before.before.before) (float_to_bits-result c))
-    ∙ by_tests x y false true true c.if-x-y.false c.if-x-y-2.true (minus binary32 x (held_x c.before.before.before) (float_to_bits-x c.before) c.if-x-lt2147483648.false)
-
-pub returns : goal.returns
-returns c = let a = c.args in by_tests a.x a.y false false (negative a.x) c.if-x-y.false c.if-x-y-2.false refl
+pub returns-else-x-y : goal.returns-else-x-y
+returns-else-x-y c = apart c.args.x c.args.y c.if-x-y.false

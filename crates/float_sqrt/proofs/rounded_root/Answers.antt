@@ -3,32 +3,28 @@ use Rattle.std.proofs.Common.{ap, arith, subst, sym, ℕ, ◌%◌, ◌*◌, ◌+
 use Rattle.float.specs.Rounding.{root}
 use Rattle.float.proofs.Root.{shifted_lt, shifted, shifted_root_lt}
 use Rattle.float_sqrt.proofs.rounded_root.Goals as goal
-use Rattle.float_sqrt.proofs.rounded_root.Goals.{After-whole_root-r, Start}
 
-top_lt : (c : Start) → c.args.top < 2 ^ 32
-top_lt c = omega arith
+-- the shifted number's root, from what `whole_root` promises
+root_of_lem : (t v r : ℕ) → t < 2 ^ 32 → r ≡ root (t * 2 ^ (17 + v % 2) % 2 ^ 64) → r ≡ root (t * 2 ^ (17 + v % 2))
+root_of_lem t v r h e = e ∙ ap root (shifted t v h)
 
-root_of_lem : (c : After-whole_root-r) → c.whole_root-r.result ≡ root (c.args.top * 2 ^ (17 + c.args.v % 2))
-root_of_lem c = c.whole_root-r.ensures ∙ ap root (shifted _ _ (top_lt c.before.before))
-
-small : (c : After-whole_root-r) → c.whole_root-r.result < 2 ^ 25
-small c = subst (λ (n : ℕ). n < 2 ^ 25) (sym (root_of_lem c)) (shifted_root_lt _ c.args.v (top_lt c.before.before))
+small : (t v r : ℕ) → t < 2 ^ 32 → r ≡ root (t * 2 ^ (17 + v % 2) % 2 ^ 64) → r < 2 ^ 25
+small t v r h e = subst (λ (n : ℕ). n < 2 ^ 25) (sym (root_of_lem t v r h e)) (shifted_root_lt t v h)
 
 pub whole_root-r-requires : goal.whole_root-r-requires
 whole_root-r-requires c = let t = c.args.top in
-    let v = c.args.v in (
-      subst (λ (n : ℕ). n < 2 ^ 50) (sym (shifted t v (top_lt c.before))) (shifted_lt t v (top_lt c.before)),
-      c.root_guess.ensures,
-    )
+    let v = c.args.v in
+    let h : t < 2 ^ 32 = omega arith in
+    (subst (λ (n : ℕ). n < 2 ^ 50) (sym (shifted t v h)) (shifted_lt t v h), c.root_guess.ensures)
 
 pub overflow_add-result-2 : goal.overflow_add-result-2
-overflow_add-result-2 c = omega (arith, small c)
+overflow_add-result-2 c = omega (arith, small c.args.top c.args.v c.whole_root-r.result (omega arith) c.whole_root-r.ensures)
 
 pub overflow_cast-result : goal.overflow_cast-result
-overflow_cast-result c = omega (arith, small c)
+overflow_cast-result c = omega (arith, small c.args.top c.args.v c.whole_root-r.result (omega arith) c.whole_root-r.ensures)
 
 pub overflow_add-result-3 : goal.overflow_add-result-3
-overflow_add-result-3 c = omega (arith, small c)
+overflow_add-result-3 c = omega (arith, small c.args.top c.args.v c.whole_root-r.result (omega arith) c.whole_root-r.ensures)
 
 pub returns : goal.returns
-returns c = rw (root_of_lem c)
+returns c = rw (root_of_lem c.args.top c.args.v c.whole_root-r.result (omega arith) c.whole_root-r.ensures)

@@ -9,20 +9,17 @@ use lib.Dec.{T, leb, ltb, eqb, nleb→lt, nltb→le}
 use lib.ListN.{length, get_or, length-reverse}
 use lib.Ieee.{Float, inf, lt, eq}
 use lib.IntN.{◌+ℤ◌}
-use Rattle.lists.specs.declared.Found.{Found}
-use Rattle.lists.specs.declared.Found.TheVariants.{At, Nowhere}
+use Rattle.std.specs.Prelude.{Option, Some, None}
 use Rattle.lists.specs.Each.{Each}
 use Rattle.lists.specs.Loops.{first, list, some, remove_at, next}
 use Rattle.float.specs.Number.{zerof, min_area}
 use Rattle.float.specs.Signs.{signum, magnitude, total_less}
 use Rattle.lid.specs.declared.Flat.{Flat}
 use Rattle.lid.specs.declared.Hit.{Hit}
-use Rattle.lid.specs.declared.Hit.TheVariants.{Nothing, Edge}
-use Rattle.lid.specs.declared.Bridged.{Bridged}
-use Rattle.lid.specs.declared.Bridged.TheVariants.{Unjoined, Joined}
+use Rattle.lid.specs.declared.Bridge.{Bridge}
 use Rattle.lid.specs.declared.Seen.{Seen}
-use Rattle.lid.specs.declared.Step.{Step}
-use Rattle.lid.specs.declared.Step.TheVariants.{Cut, Stop}
+use Rattle.lid.specs.declared.Cut.{Cut}
+use Rattle.lid.specs.Marks.{mark_number}
 use Rattle.lid.specs.declared.RingPlace.{RingPlace}
 use Rattle.lid.specs.Areas.{AreasAgree, ring_area, outer_term, joined_term, marked_term, left_term}
 use Rattle.lid.specs.Log.{Entry, entry, logged, is_mark}
@@ -38,9 +35,9 @@ use Rattle.lid.proofs.Areas.Run.Run.{rest, skip, lost, link, ear, straight}
 -- ---- places
 
 -- what a ray hit, and what was seen, stands at a place of a ring of n
-data HitIn (n : ℕ) : Hit → Type 0 where
-  no_hit : HitIn n Nothing
-  hit_at_lem : {x : Float} {t : RingPlace} → t.0 < n → HitIn n (Edge x t)
+data HitIn (n : ℕ) : Option Hit → Type 0 where
+  no_hit : HitIn n None
+  hit_at_lem : {h : Hit} → h.end.0 < n → HitIn n (Some h)
 
 record SeenIn (n : ℕ) (s : Seen) : Type 0 where
   place_in : s.place.0 < n
@@ -51,7 +48,7 @@ module _ (fs : List Flat) where
   rightmost_in h p = loop-keeps₀ (λ (k : ℕ). k < length h) _ (length h) 0
       (λ i b s q. either (λ (k : ℕ). k < length h) (total_less (corner fs (get_or h i 0)).x (corner fs (get_or h s 0)).x) q b) p
 
-  hit_edge_in : (n : ℕ) (m a b : Flat) (k j : ℕ) (h : Hit) → k < n → j < n → HitIn n h → HitIn n (hit_edge m a b k j h)
+  hit_edge_in : (n : ℕ) (m a b : Flat) (k j : ℕ) (h : Option Hit) → k < n → j < n → HitIn n h → HitIn n (hit_edge m a b k j h)
   unfolding hit_edge
   hit_edge_in n m a b k j h hk hj q =
       either (HitIn n) (passes m a b) q
@@ -59,7 +56,7 @@ module _ (fs : List Flat) where
 
   first_hit_in : (r : List ℕ) (m : Flat) → HitIn (length r) (first_hit fs r m)
   unfolding first_hit hit_at
-  first_hit_in r m = loop-keeps₀ (HitIn (length r)) (hit_at fs r m) (length r) Nothing
+  first_hit_in r m = loop-keeps₀ (HitIn (length r)) (hit_at fs r m) (length r) None
       (λ i b h q. hit_edge_in (length r) m _ _ i (next (length r) i) h b (next_in (length r) i (omega arith)) q) no_hit
 
   seen_at_in : (r : List ℕ) (m i : Flat) (end : ℕ) (s : Float) (k : ℕ) (best : Seen) → k < length r → SeenIn (length r) best → SeenIn (length r) (seen_at fs r m i end s k best)
@@ -81,21 +78,21 @@ module _ (fs : List Flat) where
   unfolding copy_of or_else
   copy_of_in r m t h = go (first (is_copy fs r m (get_or r t 0)) (length r) 0) (first_below _ (length r))
     where
-      go : (f : Found) → Below (length r) f → or_else f t < length r
-      go (At k) b = b
-      go Nowhere b = h
+      go : (f : Option ℕ) → Below (length r) f → or_else f t < length r
+      go (Some k) b = b
+      go None b = h
 
-  abbrev pub BridgeIn : List ℕ → List ℕ → Bridged → Type 0
-  BridgeIn r h Unjoined = Unit {0}
-  BridgeIn r h (Joined t j) = (t.0 < length r) × (j.0 < length h)
+  abbrev pub BridgeIn : List ℕ → List ℕ → Option Bridge → Type 0
+  BridgeIn r h None = Unit {0}
+  BridgeIn r h (Some b) = (b.place.0 < length r) × (b.from.0 < length h)
 
   pub bridge_in : (r h : List ℕ) → 0 < length h → BridgeIn r h (bridge fs r h)
   unfolding bridge bridge_at
   bridge_in r h p = go (corner fs (get_or h (rightmost fs h) 0)) (first_hit fs r (corner fs (get_or h (rightmost fs h) 0))) (first_hit_in r (corner fs (get_or h (rightmost fs h) 0)))
     where
-      go : (m : Flat) (x : Hit) → HitIn (length r) x → BridgeIn r h (bridge_at fs r m (rightmost fs h) x)
-      go m Nothing no_hit = tt
-      go m (Edge x t) (hit_at_lem q) = (copy_of_in r m _ (visible_in r m _ t.0 q), rightmost_in h p)
+      go : (m : Flat) (x : Option Hit) → HitIn (length r) x → BridgeIn r h (bridge_at fs r m (rightmost fs h) x)
+      go m None no_hit = tt
+      go m (Some x) (hit_at_lem q) = (copy_of_in r m _ (visible_in r m _ x.end.0 q), rightmost_in h p)
 
   pub turn_hole_length : (r : List ℕ) → length (turn_hole fs r) ≡ length r
   unfolding turn_hole
@@ -105,25 +102,27 @@ module _ (fs : List Flat) where
     -- ---- clipping
 
     -- a step of the clipping is a step of the machine
-    abbrev StepRuns : List ℕ → Step → Type 0
-    StepRuns r (Cut mark i) = (l : List Entry) → Run hole (remove_at i.0 r) l → Run hole r (entry mark (before r i.0) (here r i.0) (after r i.0) ∷ l)
-    StepRuns r Stop = Unit {0}
+    abbrev StepRuns : List ℕ → Option Cut → Type 0
+    StepRuns r (Some cut) =
+        (l : List Entry) → Run hole (remove_at cut.place.0 r) l
+        → Run hole r (entry (mark_number cut.mark) (before r cut.place.0) (here r cut.place.0) (after r cut.place.0) ∷ l)
+    StepRuns r None = Unit {0}
 
-    cut_straight_runs : (r : List ℕ) → 1 < length r → (f : Found) → Below (length r) f → StepRuns r (cut_straight f)
+    cut_straight_runs : (r : List ℕ) → 1 < length r → (f : Option ℕ) → Below (length r) f → StepRuns r (cut_straight f)
     unfolding cut_straight
-    cut_straight_runs r m (At i) b = λ l u. straight i m b u
-    cut_straight_runs r m Nowhere b = tt
+    cut_straight_runs r m (Some i) b = λ l u. straight i m b u
+    cut_straight_runs r m None b = tt
 
-    cut_ear_runs : (r : List ℕ) → 1 < length r → (f : Found) → Below (length r) f → StepRuns r (cut_ear fs r f)
+    cut_ear_runs : (r : List ℕ) → 1 < length r → (f : Option ℕ) → Below (length r) f → StepRuns r (cut_ear fs r f)
     unfolding cut_ear
-    cut_ear_runs r m (At i) b = λ l u. ear i m b u
-    cut_ear_runs r m Nowhere b = cut_straight_runs r m (first (is_straight fs r) (length r) 0) (first_below (is_straight fs r) (length r))
+    cut_ear_runs r m (Some i) b = λ l u. ear i m b u
+    cut_ear_runs r m None b = cut_straight_runs r m (first (is_straight fs r) (length r) 0) (first_below (is_straight fs r) (length r))
 
     clip_step_runs : (r : List ℕ) → StepRuns r (clip_step fs r)
     unfolding clip_step
     clip_step_runs r = go (leb (length r) 3) (nleb→lt (length r) 3)
       where
-        go : (b : Bool) → (T (not b) → 3 < length r) → StepRuns r (cond b Stop (cut_ear fs r (first (is_ear fs r) (length r) 0)))
+        go : (b : Bool) → (T (not b) → 3 < length r) → StepRuns r (cond b None (cut_ear fs r (first (is_ear fs r) (length r) 0)))
         go true h = tt
         go false h = cut_ear_runs r (let g = h tt in omega arith) (first (is_ear fs r) (length r) 0) (first_below (is_ear fs r) (length r))
 
@@ -133,9 +132,9 @@ module _ (fs : List Flat) where
     clip_runs (suc n) r l u = go (clip_runs n) (clip_step fs r) (clip_step_runs r) u
       where
         go : ((s : List ℕ) (l : List Entry) → Run hole (clip fs n s).ring l → Run hole s ((clip fs n s).log ++ l))
-            → (s : Step) → StepRuns r s → Run hole (clip_by (λ t. clip fs n t) r s).ring l → Run hole r ((clip_by (λ t. clip fs n t) r s).log ++ l)
-        go ih (Cut mark i) step u = step ((clip fs n (remove_at i.0 r)).log ++ l) (ih (remove_at i.0 r) l u)
-        go ih Stop step u = u
+            → (s : Option Cut) → StepRuns r s → Run hole (clip_by (λ t. clip fs n t) r s).ring l → Run hole r ((clip_by (λ t. clip fs n t) r s).log ++ l)
+        go ih (Some cut) step u = step ((clip fs n (remove_at cut.place.0 r)).log ++ l) (ih (remove_at cut.place.0 r) l u)
+        go ih None step u = u
 
     -- ---- joining
 
@@ -150,12 +149,14 @@ module _ (fs : List Flat) where
     join_all_runs (h ∷ hs) q r l u = go (join_all_runs hs q.1) (bridge fs r h.ring) (bridge_in r h.ring q.0.some) u
       where
         go : ((s : List ℕ) (l : List Entry) → Run hole (join_all fs hs s).ring l → Run hole s ((join_all fs hs s).log ++ l))
-            → (b : Bridged) → BridgeIn r h.ring b → Run hole (join_all fs hs (spliced r h.ring b)).ring l
+            → (b : Option Bridge) → BridgeIn r h.ring b → Run hole (join_all fs hs (spliced r h.ring b)).ring l
             → Run hole r (bridge_entry h.number b ∷ ((join_all fs hs (spliced r h.ring b)).log ++ l))
-        go ih Unjoined b u = lost h.number (ih r l u)
-        go ih (Joined t j) b u =
-            link h.number t.0 j.0 b.0 (subst (λ (s : List ℕ). j.0 < length s) q.0.its b.1)
-            (subst (λ (s : List ℕ). Run hole (splice r s t.0 j.0) ((join_all fs hs (splice r h.ring t.0 j.0)).log ++ l)) q.0.its (ih (splice r h.ring t.0 j.0) l u))
+        go ih None b u = lost h.number (ih r l u)
+        go ih (Some joint) b u =
+            let t = joint.place.0 in
+            let j = joint.from.0 in
+            link h.number t j b.0 (subst (λ (s : List ℕ). j < length s) q.0.its b.1)
+            (subst (λ (s : List ℕ). Run hole (splice r s t j) ((join_all fs hs (splice r h.ring t j)).log ++ l)) q.0.its (ih (splice r h.ring t j) l u))
 
     -- ---- the holes to join, in their order
 

@@ -1,16 +1,13 @@
--- What single functions of the code answer, on the way to the definitions of document 01. Definitions only.
-use Rattle.std.specs.Prelude.{ℕ, ◌+◌, ◌-◌, Bool, ◌||◌, cond, ◌≡◌, List, [], ◌∷◌, ◌++◌, length, get_or, take, drop, eqb}
+-- What single functions of the code answer, on the way to the lid's definitions. Definitions only.
+use Rattle.std.specs.Prelude.{ℕ, ◌+◌, ◌-◌, Bool, ◌||◌, cond, ◌≡◌, List, [], ◌∷◌, ◌++◌, length, get_or, take, drop, eqb, Option, None, Some}
 use Rattle.std.specs.Float.Ieee.{lt}
-use Rattle.lists.specs.declared.Found.{Found}
-use Rattle.lists.specs.declared.Found.TheVariants.{At, Nowhere}
 use Rattle.lists.specs.Loops.{remove_at}
 use Rattle.lists.specs.Slices.{Slice}
 use Rattle.float.specs.Number.{zerof}
 use Rattle.float.specs.Signs.{signum}
 use Rattle.lid.specs.declared.Flat.{Flat}
 use Rattle.lid.specs.declared.CornerNumber.{CornerNumber}
-use Rattle.lid.specs.declared.FoundPlace.{FoundPlace}
-use Rattle.lid.specs.declared.FoundPlace.TheVariants.{Place, NoPlace}
+use Rattle.lid.specs.declared.RingPlace.{RingPlace}
 use Rattle.lid.specs.declared.Corners.{Corners}
 use Rattle.lid.specs.declared.Ray.{Ray}
 use Rattle.lid.specs.declared.Clipped.{Clipped}
@@ -25,9 +22,9 @@ abbrev pub corner_of : ℕ → CornerNumber
 corner_of i = record { 0 = i }
 
 -- a place that was found, by its number
-abbrev pub numbered : FoundPlace → Found
-numbered (Place p) = At p.0
-numbered NoPlace = Nowhere
+abbrev pub numbered : Option RingPlace → Option ℕ
+numbered (Some p) = Some p.0
+numbered None = None
 
 -- the corners before, at and after place i
 abbrev pub corners_around : List ℕ → ℕ → Corners

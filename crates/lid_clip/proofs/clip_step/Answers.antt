@@ -4,18 +4,18 @@ use Rattle.lid.specs.Clipping.{cut_straight, cut_ear, clip_step}
 use Rattle.lid_clip.specs.Contract.StepNotes.{step_notes}
 use Rattle.lid_clip.proofs.clip_step.Goals as goal
 
-pub returns-then-ring-le3 : goal.returns-then-ring-le3
+pub returns-then-laid-le3 : goal.returns-then-laid-le3
 unfolding clip_step step_notes
-returns-then-ring-le3 c = record { value = rw (le-leb _ _ c.if-ring-le3.true); known_2 = c.requires.known; why_after = rw (le-leb _ _ c.if-ring-le3.true) }
+returns-then-laid-le3 c = record { value = rw (le-leb _ _ c.if-laid-le3.true); known_2 = c.requires.known; why_after = rw (le-leb _ _ c.if-laid-le3.true) }
 
-pub returns-in-Place : goal.returns-in-Place
+pub returns-in-Some : goal.returns-in-Some
 unfolding clip_step cut_ear step_notes
-returns-in-Place c = record { value = rw (lt-leb _ _ c.if-ring-le3.false, ← c.find_ear.ensures.result_value, c.in-Place.is); known_2 = c.find_ear.ensures.known_2; why_after = rw (lt-leb _ _ c.if-ring-le3.false) c.find_ear.ensures.why_after }
+returns-in-Some c = record { value = rw (lt-leb _ _ c.if-laid-le3.false, ← c.find_ear.ensures.result_value, c.in-Some.is); known_2 = c.find_ear.ensures.known_2; why_after = rw (lt-leb _ _ c.if-laid-le3.false) c.find_ear.ensures.why_after }
 
-pub returns-in-Place-find_straight : goal.returns-in-Place-find_straight
+pub returns-in_err-place : goal.returns-in_err-place
 unfolding clip_step cut_ear cut_straight step_notes
-returns-in-Place-find_straight c = record { value = rw (lt-leb _ _ c.if-ring-le3.false, ← c.find_ear.ensures.result_value, c.in_default.is, ← c.find_straight.ensures, c.in-Place-find_straight.is); known_2 = c.find_ear.ensures.known_2; why_after = rw (lt-leb _ _ c.if-ring-le3.false) c.find_ear.ensures.why_after }
+returns-in_err-place c = record { value = rw (c.from_residual.ensures, lt-leb _ _ c.if-laid-le3.false, ← c.find_ear.ensures.result_value, c.in_default.is, ← c.find_straight.ensures, c.in_err-place.was); known_2 = c.find_ear.ensures.known_2; why_after = rw (lt-leb _ _ c.if-laid-le3.false) c.find_ear.ensures.why_after }
 
-pub returns-in-NoPlace : goal.returns-in-NoPlace
+pub returns : goal.returns
 unfolding clip_step cut_ear cut_straight step_notes
-returns-in-NoPlace c = record { value = rw (lt-leb _ _ c.if-ring-le3.false, ← c.find_ear.ensures.result_value, c.in_default.is, ← c.find_straight.ensures, c.in-NoPlace.is); known_2 = c.find_ear.ensures.known_2; why_after = rw (lt-leb _ _ c.if-ring-le3.false) c.find_ear.ensures.why_after }
+returns c = record { value = rw (lt-leb _ _ c.if-laid-le3.false, ← c.find_ear.ensures.result_value, c.in_default.is, ← c.find_straight.ensures, c.in_ok-place.was); known_2 = c.find_ear.ensures.known_2; why_after = rw (lt-leb _ _ c.if-laid-le3.false) c.find_ear.ensures.why_after }

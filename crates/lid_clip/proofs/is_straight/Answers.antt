@@ -4,4 +4,4 @@ use Rattle.lid_clip.proofs.is_straight.Goals as goal
 
 pub returns : goal.returns
 unfolding is_straight turn_of
-returns c = rw (c.abs.ensures, c.turn.ensures, c.flat_at-a.ensures, c.flat_at-b.ensures, c.flat_at-c.ensures, c.corners_at-t.ensures)
+returns c = rw (c.abs.ensures, c.turn.ensures, c.at-a.ensures, c.at-b.ensures, c.at-c.ensures, c.corners_at-t.ensures)

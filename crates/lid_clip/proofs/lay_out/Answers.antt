@@ -19,7 +19,7 @@ bounds-rys-k c = omega (arith, c.loop-k.invariant.2.long)
 
 pub loop-k-preserved : goal.loop-k-preserved
 loop-k-preserved c = let l = c.loop-k in
-    (omega arith, laying_next _ _ _ l.rxs l.k _ c.loop-k-test.true (omega (arith, l.invariant.1.long)) (rw c.flat_at-f.ensures) l.invariant.1, laying_next _ _ _ l.rys l.k _ c.loop-k-test.true (omega (arith, l.invariant.2.long)) (rw c.flat_at-f.ensures) l.invariant.2)
+    (omega arith, laying_next _ _ _ l.rxs l.k _ c.loop-k-test.true (omega (arith, l.invariant.1.long)) (rw c.at-f.ensures) l.invariant.1, laying_next _ _ _ l.rys l.k _ c.loop-k-test.true (omega (arith, l.invariant.2.long)) (rw c.at-f.ensures) l.invariant.2)
 
 pub returns : goal.returns
 returns c = let l = c.loop-k in

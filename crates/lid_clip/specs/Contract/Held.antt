@@ -1,17 +1,18 @@
 -- A ring that is being clipped, with what is held beside it, and what a step of clipping does to them. Definitions only.
-use Rattle.std.specs.Prelude.{◌≡◌, true, false, cond, List, [], ◌∷◌, ◌++◌, ℕ, ◌+◌, ◌≤◌, length, take, drop, eqb, ltb, Float}
+use Rattle.std.specs.Prelude.{◌≡◌, cond, List, [], ◌∷◌, ◌++◌, ℕ, ◌+◌, ◌≤◌, length, take, drop, eqb, ltb, Option, None, Some, Float}
 use Rattle.lists.specs.Loops.{remove_at}
 use Rattle.lists.specs.Slices.{Slice}
 use Rattle.lid.specs.declared.Flat.{Flat}
 use Rattle.lid.specs.declared.Corners.{Corners}
-use Rattle.lid.specs.declared.Step.{Step}
-use Rattle.lid.specs.declared.Step.TheVariants.{Cut, Stop}
+use Rattle.lid.specs.declared.Cut.{Cut}
+use Rattle.lid.specs.Marks.{mark_number}
 use Rattle.lid.specs.Log.{Entry, entry}
 use Rattle.lid.specs.Lid.{ears_of}
 use Rattle.lid.specs.Contract.Written.{log_with, triangles_with}
 use Rattle.lid.specs.Clipping.{clip_step}
 use Rattle.lid.specs.Contract.Steps.{Cuts}
-use Rattle.lid_clip_ear.specs.Contract.Ears.{Known, InRingOrder}
+use Rattle.lid_clip_ear.specs.Contract.Ears.{Known}
+use Rattle.lid_clip_ear.specs.Contract.Laid.{InRingOrder}
 use Rattle.lid_clip_ear.specs.Contract.Notes.{NoneFrom}
 use Rattle.lid_clip.specs.declared.Stepped.{Stepped}
 
@@ -46,14 +47,16 @@ CutWritten mark t log n triangles count r =
     × (r ≡ count + length (ears_of (entry_of mark t ∷ [])))
 
 -- a step of clipping was taken: the corner was cut off, and the ring that is left, behind the first place, is held as before; or nothing was done
-abbrev pub Takes : List Flat → Step → List ℕ → List ℕ → List Float → List Float → List ℕ → List ℕ → List ℕ → ℕ → List ℕ → List ℕ → ℕ → Stepped → Type 0
-Takes fs (Cut mark p) ring ring' rxs' rys' why' log log' n triangles triangles' count r =
-    (r.more ≡ true) × Cuts mark ring p.0 ring' log log' n triangles triangles' count r.triangles
+abbrev pub Takes : List Flat → Option Cut → List ℕ → List ℕ → List Float → List Float → List ℕ → List ℕ → List ℕ → ℕ → List ℕ → List ℕ → ℕ → Option Stepped → Type 0
+Takes fs (Some cut) ring ring' rxs' rys' why' log log' n triangles triangles' count (Some r) =
+    Cuts (mark_number cut.mark) ring cut.place.0 ring' log log' n triangles triangles' count r.triangles
     × Held fs (drop 1 ring') (drop 1 rxs') (drop 1 rys') (drop 1 why') r.known
-Takes fs Stop ring ring' rxs' rys' why' log log' n triangles triangles' count r = (r.more ≡ false) × (ring' ≡ ring) × (log' ≡ log) × (triangles' ≡ triangles)
+Takes fs None ring ring' rxs' rys' why' log log' n triangles triangles' count None = (ring' ≡ ring) × (log' ≡ log) × (triangles' ≡ triangles)
+Takes fs (Some cut) ring ring' rxs' rys' why' log log' n triangles triangles' count None = ⊥
+Takes fs None ring ring' rxs' rys' why' log log' n triangles triangles' count (Some r) = ⊥
 
 -- the same of the lent slices
-abbrev pub StepTaken : List Flat → Slice ℕ → Slice Float → Slice Float → Slice ℕ → Slice ℕ → ℕ → Slice ℕ → ℕ → Stepped → Type 0
+abbrev pub StepTaken : List Flat → Slice ℕ → Slice Float → Slice Float → Slice ℕ → Slice ℕ → ℕ → Slice ℕ → ℕ → Option Stepped → Type 0
 StepTaken fs ring rxs rys why log n triangles count r =
     Takes fs (clip_step fs ring.entry.now) ring.entry.now ring.exit.now rxs.exit.now rys.exit.now why.exit.now
     log.entry.now log.exit.now n triangles.entry.now triangles.exit.now count r

@@ -7,7 +7,7 @@ slice_bounds-join-end-2 c = sym (length-take-le _ _ (omega arith))
 
 pub join-requires : goal.join-requires
 join-requires c = let a = c.args in
-    omega (arith, length-take-le (get_or a.counts.now a.g 0) c.write_hole.new.hole (omega arith))
+    omega (arith, length-take-le (get_or a.counts.holes.now a.g 0) c.write_hole.new.hole (omega arith))
 
 pub returns : goal.returns
 returns c = let w = c.write_hole.ensures.hole_after in

@@ -18,9 +18,9 @@ use Rattle.object.specs.Object.{Object}
 use Rattle.face.specs.Faces.{write_faces}
 use Rattle.shape.specs.Shapes.{faces_of}
 use Rattle.refusal.specs.declared.Refusal.TheVariants.{PartialVertex}
-use Rattle.validate.specs.declared.Verdict.{Verdict}
-use Rattle.validate.specs.declared.Verdict.TheVariants.{Ok, Empty}
-use Rattle.validate.specs.declared.Validation.TheVariants.{Judged, Refused}
+use Rattle.std.specs.Prelude.{Ok, Err}
+use Rattle.validate.specs.declared.MeshError.TheVariants.{Empty}
+use Rattle.validate.specs.Verdict.{Verdict, Validation}
 use Rattle.validate.specs.Validate.{verdict, validate_at}
 use Rattle.mesh.specs.Mesh.{kept_by, piece_of, add_piece, mesh_from, mesh_of}
 use Rattle.mesh.specs.Operations.{output}
@@ -36,7 +36,7 @@ use Rattle.validate.proofs.Verdicts.{verdict_good}
 -- the verdict on the mesh of a list of objects
 abbrev pub VerdictHolds : Float → List Object → Type 0
 VerdictHolds limit os =
-    validate_at limit (output limit os).vertices (output limit os).indices ≡ Judged (cond (eqb (sum_of (λ (o : Object). kept_by limit o.shape) os) 0) Empty Ok)
+    validate_at limit (output limit os).vertices (output limit os).indices ≡ Ok (cond (eqb (sum_of (λ (o : Object). kept_by limit o.shape) os) 0) (Err Empty) (Ok tt))
 
 module _ (limit : Float) where
   -- ---- the mesh of a list of objects
@@ -72,21 +72,24 @@ module _ (limit : Float) (above : Above limit) where
       up k n e z = omega arith
 
   pub verdict_mesh : (os : List Object) → Each (λ (o : Object). NearShape o.shape) os
-      → verdict limit (mesh_of limit os).vertices (mesh_of limit os).indices ≡ cond (eqb (sum_of (λ (o : Object). kept_by limit o.shape) os) 0) Empty Ok
+      → verdict limit (mesh_of limit os).vertices (mesh_of limit os).indices ≡ cond (eqb (sum_of (λ (o : Object). kept_by limit o.shape) os) 0) (Err Empty) (Ok tt)
   unfolding mesh_of
   verdict_mesh os n =
       let w = mesh_written limit [] 0 os n in
       let m = mesh_from limit 0 0 os in
-      verdict_good limit above m.vertices w.near m.indices w.good ∙ none_of_three (size m.indices) _ Empty Ok w.count
+      verdict_good limit above m.vertices w.near m.indices w.good ∙ none_of_three (size m.indices) _ (Err Empty) (Ok tt) w.count
 
 -- ---- validate on a mesh's numbers is the verdict on the mesh
-pub validate_is : (limit : Float) (ps : List Point) (is : List ℕ) → validate_at limit (vertex_numbers ps) is ≡ Judged (verdict limit ps is)
+abbrev judged : Verdict → Validation
+judged v = Ok v
+
+pub validate_is : (limit : Float) (ps : List Point) (is : List ℕ) → validate_at limit (vertex_numbers ps) is ≡ Ok (verdict limit ps is)
 unfolding validate_at
 validate_is limit ps is =
-    ap (λ (n : ℕ). cond (eqb n 0) (Judged (verdict limit (vertices_in (vertex_numbers ps)) is)) (Refused PartialVertex)) (ap (λ (n : ℕ). n % 3) (vertices_size ps) ∙ mul-mod_right 3 (size ps))
-    ∙ ap (λ (l : List Point). Judged (verdict limit l is)) (vertices_back ps)
+    ap (λ (n : ℕ). cond (eqb n 0) (Ok (verdict limit (vertices_in (vertex_numbers ps)) is)) (Err PartialVertex)) (ap (λ (n : ℕ). n % 3) (vertices_size ps) ∙ mul-mod_right 3 (size ps))
+    ∙ ap (λ (l : List Point). judged (verdict limit l is)) (vertices_back ps)
 
 -- at any limit above zero, of objects whose numbers are within bounds
 pub verdict_holds : (limit : Float) → Above limit → (os : List Object) → Each (λ (o : Object). NearShape o.shape) os → VerdictHolds limit os
 unfolding output
-verdict_holds limit above os n = validate_is limit (mesh_of limit os).vertices (mesh_of limit os).indices ∙ ap Judged (verdict_mesh limit above os n)
+verdict_holds limit above os n = validate_is limit (mesh_of limit os).vertices (mesh_of limit os).indices ∙ ap judged (verdict_mesh limit above os n)

@@ -14,10 +14,10 @@ add-requires c = few_together c.bound_of_all-others.ensures.0 c.bound_of_all-mos
 pub plan_bounds-requires : goal.plan_bounds-requires
 plan_bounds-requires c = (subst FewOfBoth (sym c.add.ensures) (few_together c.bound_of_all-others.ensures.0 c.bound_of_all-most.ensures.0), (checked_accepted _ _ c.requires).few)
 
-pub returns-in-Write : goal.returns-in-Write
-returns-in-Write c = let h = c.requires in
+pub returns-in-Ok : goal.returns-in-Ok
+returns-in-Ok c = let h = c.requires in
     let enough = sums_suffice _ _ Exact Highest c.bound_of_all-others.ensures.1 c.bound_of_all-most.ensures.1 in
-    plan_bounded _ _ _ _ h (subst (Suffices _ _) (sym c.add.ensures) enough) c.in-Write.is c.plan_bounds.ensures
+    plan_bounded _ _ _ _ h (subst (Suffices _ _) (sym c.add.ensures) enough) c.in-Ok.is c.plan_bounds.ensures
 
 pub add-requires-2 : goal.add-requires-2
 add-requires-2 c = few_together c.bound_of_all-others.ensures.0 c.bound_of_all-lids.ensures.0

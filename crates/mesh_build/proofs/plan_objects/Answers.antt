@@ -7,5 +7,5 @@ use Rattle.mesh_build.proofs.plan_objects.Goals as goal
 pub plan_bounds-requires : goal.plan_bounds-requires
 plan_bounds-requires c = (few_all c.bound_of_all-most.ensures.0, (checked_accepted _ _ c.requires).few)
 
-pub returns-in-Write : goal.returns-in-Write
-returns-in-Write c = plan_bounded _ _ _ _ c.requires (sum_suffices _ _ c.bound_of_all-most.ensures.1) c.in-Write.is c.plan_bounds.ensures
+pub returns-in-Ok : goal.returns-in-Ok
+returns-in-Ok c = plan_bounded _ _ _ _ c.requires (sum_suffices _ _ c.bound_of_all-most.ensures.1) c.in-Ok.is c.plan_bounds.ensures

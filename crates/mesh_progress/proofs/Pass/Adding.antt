@@ -24,7 +24,6 @@ use Rattle.lid.specs.Log.{log_numbers}
 use Rattle.shape.specs.declared.Drawn.{Drawn}
 use Rattle.shape.specs.Contract.Drawn.{CanDraw, DrewObject}
 use Rattle.shape.specs.Shapes.{faces_of, log_of}
-use Rattle.shape.specs.Price.{offered}
 use Rattle.shape.specs.Contract.Stages.{last_of}
 use Rattle.shape.proofs.Stages.{stages_faces}
 use Rattle.mesh_progress.specs.declared.Progress.{Progress}

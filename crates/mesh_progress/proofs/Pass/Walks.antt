@@ -1,13 +1,13 @@
 -- The loop over the records: its invariant at the start, after an object and at the end. Assumes nothing.
 use mathlib.Core.Path.{◌≡◌, refl, sym, ap, ◌∙◌, subst}
 use mathlib.Core.List.{List, []}
-use Prim.Native.Nat.{ℕ, ◌+◌, ◌*◌, ◌≤◌, ◌<◌, ◌^◌, zero-le}
+use Prim.Native.Nat.{ℕ, ◌+◌, ◌≤◌, ◌<◌, ◌^◌, zero-le}
 use native.Mathlib.Nat.{add-zero}
 use native.Mathlib.Omega.{arith}
 use lib.ListN.{length, drop, drop_of_length-le}
 use lib.Ieee.{Float}
 use Rattle.object.specs.Object.{Object}
-use Rattle.scene.specs.declared.scenes.Checked.TheVariants.{Accepted}
+use Rattle.std.specs.Prelude.{Ok}
 use Rattle.scene.specs.Scene.{accepted, scene, trailer}
 use Rattle.scene.specs.Contract.Answers.{checked_of, objects_of}
 use Rattle.scene.specs.Contract.Headers.{header_at, object_of}
@@ -36,7 +36,7 @@ pub record Walks (limit : Float) (s : List ℕ) (n : ℕ) (p₀ : Progress) (b�
 abbrev pub begun_at : Progress → Progress
 begun_at p = record { at = 0; objects = p.objects; vertices = p.vertices; kept = p.kept; spans = p.spans; entries = p.entries }
 
-pub walks_start : (limit : Float) (s : List ℕ) (n : ℕ) (p : Progress) (b : Buffers) → Accepted n ≡ checked_of (scene s) → CanAddAll limit s p → Walks limit s n p b b (begun_at p)
+pub walks_start : (limit : Float) (s : List ℕ) (n : ℕ) (p : Progress) (b : Buffers) → Ok n ≡ checked_of (scene s) → CanAddAll limit s p → Walks limit s n p b b (begun_at p)
 walks_start limit s n p b h c =
     let q = checked_accepted s n h in
     record {
@@ -52,7 +52,7 @@ walks_start limit s n p b h c =
     }
 
 -- the number of the last object fits
-pub end_fits : (limit : Float) (s : List ℕ) (n : ℕ) (p : Progress) → Accepted n ≡ checked_of (scene s) → CanAddAll limit s p → p.objects + n < 2 ^ 32
+pub end_fits : (limit : Float) (s : List ℕ) (n : ℕ) (p : Progress) → Ok n ≡ checked_of (scene s) → CanAddAll limit s p → p.objects + n < 2 ^ 32
 unfolding with_objects
 end_fits limit s n p h c =
     let q = checked_accepted s n h in
@@ -130,7 +130,7 @@ module _ {limit : Float} {s : List ℕ} {n : ℕ} {p₀ : Progress} {b₀ b : Bu
 -- ---- a scene of its own
 
 -- what has been added fits where the scene's objects do
-pub added_fits : (limit : Float) (s : List ℕ) (n : ℕ) {p : Progress} {b b' : Buffers} → Accepted n ≡ checked_of (scene s) → CanAddAll limit s beginning
+pub added_fits : (limit : Float) (s : List ℕ) (n : ℕ) {p : Progress} {b b' : Buffers} → Ok n ≡ checked_of (scene s) → CanAddAll limit s beginning
     → ((os : List Object) → scene s ≡ accepted os → AddedAll limit os beginning p b b') → Fits (pass_of p b')
 added_fits limit s n {p} {b} h c a =
     let q = checked_accepted s n h in

@@ -3,8 +3,8 @@ use Rattle.std.specs.Prelude.{◌≡◌, ℕ, List, Float}
 use Rattle.std.proofs.lemmas.List.Edits.{sets}
 use Rattle.object.specs.Object.{Object}
 use Rattle.scene.specs.Scene.{scene, accepted}
-use Rattle.mesh_answer.specs.declared.Counted.{Counted}
 use Rattle.mesh_progress.specs.declared.Progress.{Progress}
+use Rattle.mesh_answer.specs.declared.Counted.{Counted}
 use Rattle.mesh_answer.specs.Answers.{counts_from}
 use Rattle.mesh.specs.PerBuffer.{each, at, Counts, numbers_for, Buffers}
 use Rattle.mesh.specs.Operations.{output, counts_of}

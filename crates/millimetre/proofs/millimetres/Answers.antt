@@ -5,18 +5,18 @@ use mir.Syntax.{w64}
 use mir.Val.{SFits, to_z, of_z}
 use mir.Facts.{to_z-of_z, to_z_pos}
 use Rattle.millimetre.specs.Millimetres.{signed, millimetres}
+use Rattle.millimetre.specs.Contract.Reach.{InReach}
 use Rattle.millimetre.proofs.Law.{Counted, counted}
 use Rattle.millimetre.proofs.Placed.{placed_bits, placed_le, placed_no_nan, placed_back, difference}
 use Rattle.millimetre.proofs.Rule.{summed}
 use Rattle.millimetre.proofs.Product.{thousand, reach_no_nan}
 use Rattle.millimetre.proofs.millimetres.Goals as goal
-use Rattle.millimetre.proofs.millimetres.Goals.{Start}
 
-held : (c : Start) → T (fits binary32 c.args.x)
-held c = subst T (sym c.well_formed.0.1) tt
+held : (x : Float) → fits binary32 x ≡ true → T (fits binary32 x)
+held x e = subst T (sym e) tt
 
-law : (c : Start) → (s : Bool) × (n : ℕ) × Counted c.args.x s n
-law c = counted c.args.x (held c) c.requires
+law : (x : Float) → fits binary32 x ≡ true → InReach x → (s : Bool) × (n : ℕ) × Counted x s n
+law x e h = counted x (held x e) h
 
 -- the sum, whose pattern is read
 abbrev sum : Float → Float
@@ -46,25 +46,25 @@ result : (x : Float) (s : Bool) (n : ℕ) → Counted x s n → to_z w64 (of_z w
 result x s n k = to_z-of_z (number_fits x s n k) ∙ number x s n k ∙ k.is
 
 pub float_to_float-product : goal.float_to_float-product
-float_to_float-product c = let x = c.args.x in and_i (fits binary64 x) (not (is_nan x)) (fits_widens x (held c.before)) (reach_no_nan x c.requires)
+float_to_float-product c = let x = c.args.x in and_i (fits binary64 x) (not (is_nan x)) (fits_widens x (held x c.well_formed.0.1)) (reach_no_nan x c.requires)
 
 pub float_to_bits-past : goal.float_to_bits-past
-float_to_bits-past c = let k = law c.before in k.2.product_known
+float_to_bits-past c = let k = law c.args.x c.well_formed.0.1 c.requires in k.2.product_known
 
 pub overflow_add-past : goal.overflow_add-past
-overflow_add-past c = let k = law c.before in record { fits = k.2.rounds.fits }
+overflow_add-past c = let k = law c.args.x c.well_formed.0.1 c.requires in record { fits = k.2.rounds.fits }
 
 pub float_from_bits-past : goal.float_from_bits-past
-float_from_bits-past c = let k = law c.before in k.2.rounds.known
+float_from_bits-past c = let k = law c.args.x c.well_formed.0.1 c.requires in k.2.rounds.known
 
 pub float_to_bits-result : goal.float_to_bits-result
-float_to_bits-result c = let k = law c.before in sum_no_nan c.args.x k.0 k.1 k.2
+float_to_bits-result c = let k = law c.args.x c.well_formed.0.1 c.requires in sum_no_nan c.args.x k.0 k.1 k.2
 
 pub overflow_cast-result : goal.overflow_cast-result
-overflow_cast-result c = let k = law c.before in record { sfits = sum_low c.args.x k.0 k.1 k.2 }
+overflow_cast-result c = let k = law c.args.x c.well_formed.0.1 c.requires in record { sfits = sum_low c.args.x k.0 k.1 k.2 }
 
 pub overflow_sub-result : goal.overflow_sub-result
-overflow_sub-result c = let k = law c.before in number_fits c.args.x k.0 k.1 k.2
+overflow_sub-result c = let k = law c.args.x c.well_formed.0.1 c.requires in number_fits c.args.x k.0 k.1 k.2
 
 pub returns : goal.returns
-returns c = let k = law c.before in result c.args.x k.0 k.1 k.2
+returns c = let k = law c.args.x c.well_formed.0.1 c.requires in result c.args.x k.0 k.1 k.2

@@ -5,8 +5,8 @@ use Rattle.quote_lines.proofs.put_verdict.Goals as goal
 
 pub returns-then-ok : goal.returns-then-ok
 unfolding verdict_line
-returns-then-ok c = let w = c.put_word.ensures in (rw c.if-ok.true w, omega (arith, w.place))
+returns-then-ok c = let w = c.put_word.ensures in (rw c.if-ok.true w, omega (arith, w.wrote.place))
 
-pub returns : goal.returns
+pub returns-else-ok : goal.returns-else-ok
 unfolding verdict_line
-returns c = let w = c.put_word-2.ensures in (rw c.if-ok.false w, omega (arith, w.place))
+returns-else-ok c = let w = c.put_word-else-ok.ensures in (rw c.if-ok.false w, omega (arith, w.wrote.place))

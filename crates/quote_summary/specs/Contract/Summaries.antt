@@ -5,7 +5,7 @@ use Rattle.object.specs.Object.{Object}
 use Rattle.refusal.specs.declared.Refusal.{Refusal}
 use Rattle.refusal.specs.Rows.{number_of}
 use Rattle.scene.specs.Scene.{scene, refused, accepted}
-use Rattle.validate.specs.declared.Validation.{Validation}
+use Rattle.validate.specs.Verdict.{Validation}
 use Rattle.mesh.specs.Mesh.{mesh_of, span_width, account_width}
 use Rattle.mesh.specs.Operations.{Answer, measure}
 use Rattle.quote_lines.specs.Lines.{is_ok}

@@ -6,9 +6,6 @@ use Rattle.scene_field.proofs.u16_at.Goals as goal
 pub returns-then-s-i : goal.returns-then-s-i
 returns-then-s-i c = sym (u16_past _ _ c.if-s-i.true)
 
-pub overflow_cast-result : goal.overflow_cast-result
-overflow_cast-result c = omega (arith, c.shared_slice_known-2-1.given c.args.i)
-
 pub returns : goal.returns
 unfolding u16_at
 returns c = let a = c.args in

@@ -1,33 +1,39 @@
-use Rattle.std.proofs.Common.{arith, get_or, ◌+◌}
-use Rattle.scene.proofs.HeaderLaws.{body_other}
-use Rattle.scene.specs.Contract.Headers.{body_at, header_at}
+use Rattle.std.proofs.Common.{sym, ◌∙◌}
+use Rattle.scene.proofs.HeaderLaws.{header_read}
+use Rattle.scene.specs.Contract.Headers.{body_at}
 use Rattle.scene_header.proofs.header_at.Goals as goal
 
-pub returns-in-0 : goal.returns-in-0
-unfolding header_at body_at
-returns-in-0 c = rw (c.in-0.is, ← c.u32_at-id.ensures) c.solid_header.ensures
+pub returns-in-Unsized : goal.returns-in-Unsized
+unfolding body_at
+returns-in-Unsized c = let a = c.args in
+    (rw c.u32_at-id.ensures at c.solid_header.ensures) ∙ header_read a.s.now a.i c.try_from.result _ c.try_from.ensures (sym c.unwrap_or.ensures ∙ c.in-Unsized.is)
 
-pub returns-in-1 : goal.returns-in-1
-unfolding header_at body_at
-returns-in-1 c = rw (c.in-1.is, ← c.u32_at-id.ensures) (rw c.box_at.ensures at c.solid_header-in-1.ensures)
+pub returns-in-Box : goal.returns-in-Box
+unfolding body_at
+returns-in-Box c = let a = c.args in
+    (rw (c.u32_at-id.ensures, c.box_at.ensures) at c.solid_header-in-Box.ensures) ∙ header_read a.s.now a.i c.try_from.result _ c.try_from.ensures (sym c.unwrap_or.ensures ∙ c.in-Box.is)
 
-pub returns-in-2 : goal.returns-in-2
-unfolding header_at body_at
-returns-in-2 c = rw (c.in-2.is, ← c.u32_at-id.ensures) (rw c.cylinder_at.ensures at c.solid_header-in-2.ensures)
+pub returns-in-Cylinder : goal.returns-in-Cylinder
+unfolding body_at
+returns-in-Cylinder c = let a = c.args in
+    (rw (c.u32_at-id.ensures, c.cylinder_at.ensures) at c.solid_header-in-Cylinder.ensures) ∙ header_read a.s.now a.i c.try_from.result _ c.try_from.ensures (sym c.unwrap_or.ensures ∙ c.in-Cylinder.is)
 
-pub returns-in-3 : goal.returns-in-3
-unfolding header_at body_at
-returns-in-3 c = rw (c.in-3.is, ← c.u32_at-id.ensures) c.outline_header.ensures
+pub returns-in-OpenOutline : goal.returns-in-OpenOutline
+unfolding body_at
+returns-in-OpenOutline c = let a = c.args in
+    (rw c.u32_at-id.ensures at c.outline_header.ensures) ∙ header_read a.s.now a.i c.try_from.result _ c.try_from.ensures (sym c.unwrap_or.ensures ∙ c.in-OpenOutline.is)
 
-pub returns-in-4 : goal.returns-in-4
-unfolding header_at body_at
-returns-in-4 c = rw (c.in-4.is, ← c.u32_at-id.ensures) c.outline_header-in-4.ensures
+pub returns-in-ClosedOutline : goal.returns-in-ClosedOutline
+unfolding body_at
+returns-in-ClosedOutline c = let a = c.args in
+    (rw c.u32_at-id.ensures at c.outline_header-in-ClosedOutline.ensures) ∙ header_read a.s.now a.i c.try_from.result _ c.try_from.ensures (sym c.unwrap_or.ensures ∙ c.in-ClosedOutline.is)
 
-pub returns-in-5 : goal.returns-in-5
-unfolding header_at body_at
-returns-in-5 c = rw (c.in-5.is, ← c.u32_at-id.ensures) c.sweep_header.ensures
+pub returns-in-Sweep : goal.returns-in-Sweep
+unfolding body_at
+returns-in-Sweep c = let a = c.args in
+    (rw c.u32_at-id.ensures at c.sweep_header.ensures) ∙ header_read a.s.now a.i c.try_from.result _ c.try_from.ensures (sym c.unwrap_or.ensures ∙ c.in-Sweep.is)
 
-pub returns-in_default : goal.returns-in_default
-unfolding header_at
-returns-in_default c = let a = c.args in
-    rw (← body_other a.s.now (a.i + 5) (get_or a.s.now a.i 0) (λ e. omega arith) (λ e. omega arith) (λ e. omega arith) (λ e. omega arith) (λ e. omega arith) (λ e. omega arith), ← c.u32_at-id.ensures) c.sweep_header-in_default.ensures
+pub returns-in-RoundSweep : goal.returns-in-RoundSweep
+unfolding body_at
+returns-in-RoundSweep c = let a = c.args in
+    (rw c.u32_at-id.ensures at c.sweep_header-in-RoundSweep.ensures) ∙ header_read a.s.now a.i c.try_from.result _ c.try_from.ensures (sym c.unwrap_or.ensures ∙ c.in-RoundSweep.is)

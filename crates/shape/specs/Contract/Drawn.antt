@@ -6,7 +6,8 @@ use Rattle.object.specs.Object.{Shape}
 use Rattle.scene_field.specs.Layout.{most_bytes}
 use Rattle.scene.specs.declared.headers.Body.{Body}
 use Rattle.scene.specs.Contract.Headers.{body_size, Limits}
-use Rattle.face.specs.Contract.Drawing.{tally, drawing}
+use Rattle.face.specs.declared.Canvas.{Canvas}
+use Rattle.face.specs.Contract.Drawing.{tally, drawing, SameLoans}
 use Rattle.lid.specs.Log.{log_numbers}
 use Rattle.shape.specs.declared.Drawn.{Drawn}
 use Rattle.shape.specs.Shapes.{log_of}
@@ -28,14 +29,12 @@ pub record DrewObject (limit : Float) (sh : Shape) (before : ℕ) (vs ns : List 
   pub entries : r.entries ≡ length (log_of sh)
   pub log : ls' ≡ sets ls 0 (log_numbers (log_of sh))
 
--- the same of the lent slices
-abbrev pub DrawsObject : Float → Shape → ℕ → Drawn → Slice Float → Slice Float → Slice ℕ → Slice ℕ → Type 0
-DrawsObject limit sh before r vs ns is ls =
-    DrewObject limit sh before vs.entry.now ns.entry.now is.entry.now ls.entry.now r
-    vs.exit.now ns.exit.now is.exit.now ls.exit.now
+-- the same on the canvas, which was c and is c', with the lent log
+pub record DrawsObject (sh : Shape) (r : Drawn) (c c' : Canvas) (ls : Slice ℕ) : Type 0 where
+  pub drew : DrewObject c.limit sh c.before c.vertices.now c.normals.now c.indices.now ls.entry.now r c'.vertices.now c'.normals.now c'.indices.now ls.exit.now
+  pub same : SameLoans c c'
 
 -- of a shape without a log, where none is lent: it holds of any
-abbrev pub DrawsUnlogged : Float → Shape → ℕ → Drawn → Slice Float → Slice Float → Slice ℕ → Type 0
-DrawsUnlogged limit sh before r vs ns is =
-    (ls : List ℕ) → DrewObject limit sh before vs.entry.now ns.entry.now is.entry.now ls r
-    vs.exit.now ns.exit.now is.exit.now ls
+pub record DrawsUnlogged (sh : Shape) (r : Drawn) (c c' : Canvas) : Type 0 where
+  pub drew : (ls : List ℕ) → DrewObject c.limit sh c.before c.vertices.now c.normals.now c.indices.now ls r c'.vertices.now c'.normals.now c'.indices.now ls
+  pub same : SameLoans c c'

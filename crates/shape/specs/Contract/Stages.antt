@@ -3,7 +3,6 @@
 use Rattle.std.specs.Prelude.{◌≡◌, ℕ, ◌+◌, Bool, cond, List, [], ◌∷◌, ◌++◌, map, get_or, Float}
 use Rattle.std.specs.Float.Ieee.{lt, eq}
 use Rattle.lists.specs.Loops.{list, join}
-use Rattle.lists.specs.Slices.{Slice}
 use Rattle.float.specs.Number.{zerof, onef}
 use Rattle.coords.specs.declared.Point.{Point}
 use Rattle.coords_vector.specs.declared.Vector.{Vector}
@@ -16,7 +15,8 @@ use Rattle.object.specs.declared.Orientation.{Orientation}
 use Rattle.object.specs.Object.{frame, Shape, solid, outline, sweep, round_sweep}
 use Rattle.face.specs.declared.Tally.{Tally}
 use Rattle.face.specs.Faces.{Triangle, Face}
-use Rattle.face.specs.Contract.Drawing.{tally, Drawing, counted, Drew, at_entry, at_exit}
+use Rattle.face.specs.declared.Canvas.{Canvas}
+use Rattle.face.specs.Contract.Drawing.{tally, Drawing, counted, Drew, drawing_on, SameLoans}
 use Rattle.lid_plane.specs.Plane.{tops_of, bases_of, lid_normal}
 use Rattle.shape.specs.Shapes.{Axis, along_x, along_y, along_z, on_axis, box_face, ring_at, cylinder_side, end_face, outer_walls, hole_walls, all_corners, outline_lid, has_height, pairs, pair_faces, sweep_caps, ellipse, tube_faces, tube_caps}
 
@@ -111,9 +111,11 @@ pub record DrewStages (limit : Float) (stages : List PartRun) (before : ℕ) (d 
 abbrev pub last_of : List Tally → Tally
 last_of after = get_or after 5 (tally 0 0 0)
 
--- the stages were drawn into the lent slices: six with these counts after each, or two with counts u and w
-abbrev pub DrawsStages : Float → List PartRun → ℕ → Tally → List Tally → Slice Float → Slice Float → Slice ℕ → Type 0
-DrawsStages limit stages before t after vs ns is = DrewStages limit stages before (at_entry t vs ns is) (at_exit (last_of after) vs ns is) after
+-- the stages were drawn on the canvas, which was c and is c', with these counts after each
+pub record DrawsStages (stages : List PartRun) (tallies : List Tally) (c c' : Canvas) : Type 0 where
+  pub drew : DrewStages c.limit stages c.before (drawing_on c) (drawing_on c') tallies
+  pub same : SameLoans c c'
 
-abbrev pub DrawsTwo : Float → List PartRun → ℕ → Tally → Tally → Tally → Slice Float → Slice Float → Slice ℕ → Type 0
-DrawsTwo limit stages before t u w vs ns is = DrewStages limit stages before (at_entry t vs ns is) (at_exit w vs ns is) (u ∷ w ∷ [])
+-- two stages, with counts u after the first
+abbrev pub DrawsTwo : List PartRun → Tally → Canvas → Canvas → Type 0
+DrawsTwo stages u c c' = DrawsStages stages (u ∷ c'.tally ∷ []) c c'

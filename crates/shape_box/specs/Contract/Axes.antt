@@ -1,5 +1,5 @@
 -- The axes of a box, as the program names them, and its faces across one. Definitions only.
-use Rattle.std.specs.Prelude.{ℕ, zero, suc, ◌+◌, ◌*◌, List, [], ◌++◌, Float}
+use Rattle.std.specs.Prelude.{ℕ, List, Float}
 use Rattle.shape_box.specs.declared.Axis.{Axis as ProgramAxis}
 use Rattle.shape_box.specs.declared.Axis.TheVariants.{X, Y, Z}
 use Rattle.shape_box.specs.declared.Placed.{Placed}
@@ -12,25 +12,18 @@ axis_of X = along_x
 axis_of Y = along_y
 axis_of Z = along_z
 
--- the faces of a placed box across an axis, along which it has some depth
-abbrev pub sides_of : Placed → ProgramAxis → Float → ℕ → List PartRun
-sides_of b axis depth part = side_stages b.origin b.turn b.length b.width b.height (axis_of axis) depth part
+-- how deep a placed box is along an axis
+unfoldable pub depth_along : Placed → ProgramAxis → Float
+depth_along b X = b.length
+depth_along b Y = b.width
+depth_along b Z = b.height
 
--- the axes by number, and how deep the box is along them
-unfoldable pub axis_no : ℕ → Axis
-axis_no zero = along_x
-axis_no (suc zero) = along_y
-axis_no (suc (suc k)) = along_z
+-- the part of the face along an axis; the one against it has the next number
+unfoldable pub part_along : ProgramAxis → ℕ
+part_along X = 11
+part_along Y = 13
+part_along Z = 15
 
-unfoldable pub depth_no : Placed → ℕ → Float
-depth_no b zero = b.length
-depth_no b (suc zero) = b.width
-depth_no b (suc (suc k)) = b.height
-
--- the faces across axis k, and across the first k axes
-unfoldable pub sides_no : Placed → ℕ → List PartRun
-sides_no b k = side_stages b.origin b.turn b.length b.width b.height (axis_no k) (depth_no b k) (11 + 2 * k)
-
-unfoldable pub box_to : Placed → ℕ → List PartRun
-box_to b zero = []
-box_to b (suc k) = box_to b k ++ sides_no b k
+-- the faces of a placed box across an axis
+abbrev pub sides_of : Placed → ProgramAxis → List PartRun
+sides_of b axis = side_stages b.origin b.turn b.length b.width b.height (axis_of axis) (depth_along b axis) (part_along axis)

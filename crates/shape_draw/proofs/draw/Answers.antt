@@ -2,6 +2,9 @@ use Rattle.std.proofs.Common.{arith, refl}
 use Rattle.lid.specs.Log.{log_numbers}
 use Rattle.lists.specs.Loops.{join}
 use Rattle.scene.proofs.HeaderLaws.{solid_in}
+use Rattle.scene.specs.declared.headers.Body.TheVariants.{Solid}
+use Rattle.scene.specs.Contract.Headers.{shape_of}
+use Rattle.shape_outline.proofs.Cleared.{cleared_same, drew_object}
 use Rattle.shape_outline.proofs.OutlineLaws.{can_place}
 use Rattle.shape.specs.Price.{offered}
 use Rattle.shape.specs.Shapes.{log_of}
@@ -20,43 +23,15 @@ draw_sections-requires c = let d = rw c.in-Sweep.is at c.requires in (omega (ari
 
 pub returns-in-Solid : goal.returns-in-Solid
 unfolding stages_of offered log_of log_numbers join
-returns-in-Solid c = rw c.in-Solid.is (record { first = c.first_part-first.ensures; drew = c.solid-after.ensures; offered = c.solid_price-offered.ensures; entries = refl; log = refl })
+returns-in-Solid c =
+    rw c.in-Solid.is
+    (record {
+      drew = record { first = c.first_part.ensures; drew = drew_object (shape_of c.args.s.now c.args.i (Solid c.in-Solid.p)) c.args.canvas.now c.solid-after.ensures; offered = c.solid_price.ensures; entries = refl; log = refl };
+      same = cleared_same c.solid-after.ensures.same;
+    })
 
 pub returns-in-Outline : goal.returns-in-Outline
-returns-in-Outline c = rw c.in-Outline.is c.outline.ensures
+returns-in-Outline c = rw c.in-Outline.is (record { drew = c.outline.ensures.drew; same = c.outline.ensures.same })
 
 pub returns-in-Sweep : goal.returns-in-Sweep
-returns-in-Sweep c = rw c.in-Sweep.is (c.draw_sections.ensures c.args.log.now)
-
-pub overflow_cast-n : goal.overflow_cast-n
-overflow_cast-n c = omega (arith, c.requires.inside, c.requires.short)
-
-pub shape_of-vs-in-Solid : goal.shape_of-vs-in-Solid
-shape_of-vs-in-Solid c = c.vs-1.given
-
-pub shape_of-ns-in-Solid : goal.shape_of-ns-in-Solid
-shape_of-ns-in-Solid c = c.ns-1.given
-
-pub shape_of-is-in-Solid : goal.shape_of-is-in-Solid
-shape_of-is-in-Solid c = c.is-1.given
-
-pub shape_of-vs-in-Outline : goal.shape_of-vs-in-Outline
-shape_of-vs-in-Outline c = c.vs-in-Outline-1.given
-
-pub shape_of-ns-in-Outline : goal.shape_of-ns-in-Outline
-shape_of-ns-in-Outline c = c.ns-in-Outline-1.given
-
-pub shape_of-is-in-Outline : goal.shape_of-is-in-Outline
-shape_of-is-in-Outline c = c.is-in-Outline-1.given
-
-pub shape_of-log : goal.shape_of-log
-shape_of-log c = c.log-1.given
-
-pub shape_of-vs-in-Sweep : goal.shape_of-vs-in-Sweep
-shape_of-vs-in-Sweep c = c.vs-in-Sweep-1.given
-
-pub shape_of-ns-in-Sweep : goal.shape_of-ns-in-Sweep
-shape_of-ns-in-Sweep c = c.ns-in-Sweep-1.given
-
-pub shape_of-is-in-Sweep : goal.shape_of-is-in-Sweep
-shape_of-is-in-Sweep c = c.is-in-Sweep-1.given
+returns-in-Sweep c = rw c.in-Sweep.is (record { drew = c.draw_sections.ensures.drew c.args.log.now; same = c.draw_sections.ensures.same })

@@ -1,21 +1,30 @@
-use Rattle.std.proofs.Common.{arith, ◌∙◌}
+use Rattle.std.proofs.Common.{arith}
+use Rattle.face.proofs.Canvases.{same_then}
+use Rattle.shape_outline_walls.proofs.WallLaws.{start_countable}
+use Rattle.shape_outline.proofs.Cleared.{cleared_same}
 use Rattle.shape_outline.proofs.OutlineLaws.{outline_holds, high_in, countable_in, open_in, closed_in}
 use Rattle.shape_outline.proofs.outline.Goals as goal
 
-pub all_walls-t-requires : goal.all_walls-t-requires
-all_walls-t-requires c = let p = c.requires in
+pub all_walls-requires : goal.all_walls-requires
+all_walls-requires c = let p = c.requires in
     let a = c.args in
-    (outline_holds a.s.now a.i a.closed a.outer a.holes a.corners c.outline_at-o.ensures p.0, p.1)
+    let m = outline_holds a.s.now a.i a.closed a.outer a.holes a.corners c.outline_at-o.ensures p.0 in
+    (m, start_countable a.canvas.now.before _ p.1 (omega (arith, m.placed.counted.total, m.placed.counted.most)))
 
 pub cap-c-requires : goal.cap-c-requires
 cap-c-requires c = let p = c.requires in
     let a = c.args in
     let e = c.outline_at-o.ensures in
-    (outline_holds a.s.now a.i a.closed a.outer a.holes a.corners e p.0, high_in a.s.now a.i a.closed a.outer a.holes a.corners e p.0 c.if-closed.true, countable_in a.s.now a.i a.closed a.outer a.holes a.corners e p.0 p.1 c.all_walls-t.ensures)
+    (outline_holds a.s.now a.i a.closed a.outer a.holes a.corners e p.0, high_in a.s.now a.i a.closed a.outer a.holes a.corners e p.0 c.if-closed.true, countable_in a.s.now a.i a.closed a.outer a.holes a.corners e p.0 a.canvas.now p.1 c.all_walls.ensures)
 
 pub returns-then-closed : goal.returns-then-closed
 returns-then-closed c = let a = c.args in
-    closed_in a.s.now a.i a.closed a.outer a.holes a.corners c.outline_at-o.ensures c.requires.0 c.if-closed.true c.all_walls-t.ensures c.cap-c.ensures
+    let walls = c.all_walls.ensures in
+    let capped = c.cap-c.ensures in
+    record {
+      drew = closed_in a.s.now a.i a.closed a.outer a.holes a.corners c.outline_at-o.ensures c.requires.0 a.canvas.now c.if-closed.true walls capped;
+      same = same_then (cleared_same walls.same) capped.drew.same;
+    }
 
 pub open_price-requires : goal.open_price-requires
 open_price-requires c = let a = c.args in
@@ -24,28 +33,8 @@ open_price-requires c = let a = c.args in
 
 pub returns : goal.returns
 returns c = let a = c.args in
-    open_in a.s.now a.i a.closed a.outer a.holes a.corners c.outline_at-o.ensures c.requires.0 c.if-closed.false c.all_walls-t.ensures c.open_price.ensures
-
-pub outline_at-o-requires : goal.outline_at-o-requires
-outline_at-o-requires c = c.requires.0
-
-pub shape_of-vs-then-closed : goal.shape_of-vs-then-closed
-shape_of-vs-then-closed c = c.vs-then-closed-1.given ∙ c.vs-1.given
-
-pub shape_of-ns-then-closed : goal.shape_of-ns-then-closed
-shape_of-ns-then-closed c = c.ns-then-closed-1.given ∙ c.ns-1.given
-
-pub shape_of-is-then-closed : goal.shape_of-is-then-closed
-shape_of-is-then-closed c = c.is-then-closed-1.given ∙ c.is-1.given
-
-pub shape_of-log-then-closed : goal.shape_of-log-then-closed
-shape_of-log-then-closed c = c.log-1.given
-
-pub shape_of-vs : goal.shape_of-vs
-shape_of-vs c = c.vs-1.given
-
-pub shape_of-ns : goal.shape_of-ns
-shape_of-ns c = c.ns-1.given
-
-pub shape_of-is : goal.shape_of-is
-shape_of-is c = c.is-1.given
+    let walls = c.all_walls.ensures in
+    record {
+      drew = open_in a.s.now a.i a.closed a.outer a.holes a.corners c.outline_at-o.ensures c.requires.0 a.canvas.now c.if-closed.false walls c.open_price.ensures;
+      same = cleared_same walls.same;
+    }

@@ -14,6 +14,7 @@ use Rattle.lid_plane.specs.Plane.{lid_normal}
 use Rattle.lid.specs.Lid.{Lid}
 use Rattle.shape.specs.Shapes.{outline_lid}
 use Rattle.shape_outline_corners.specs.declared.OutlineAt.{OutlineAt}
+use Rattle.shape_outline_corners.specs.declared.Row.{Row}
 
 -- n points, 24 bytes apart, from place `at` on
 unfoldable pub points_at : List ℕ → ℕ → ℕ → List Point
@@ -26,6 +27,19 @@ CornersIn s at n = at + 24 * n ≤ length s
 -- n points, 24 bytes apart and 12 bytes each, from `at` on lie in the bytes
 abbrev pub PointsIn : List ℕ → ℕ → ℕ → Type 0
 PointsIn s at n = at + 24 * n ≤ length s + 12
+
+-- a row of corners that lie in the bytes, and a row of points; the corners, and the points
+abbrev pub HoldsCorners : Row → Type 0
+HoldsCorners r = CornersIn r.s.now r.at r.n
+
+abbrev pub HoldsPoints : Row → Type 0
+HoldsPoints r = PointsIn r.s.now r.at r.n
+
+abbrev pub corners_of : Row → List Corner
+corners_of r = corners_at r.s.now r.n r.at
+
+abbrev pub points_of : Row → List Point
+points_of r = points_at r.s.now r.n r.at
 
 -- a face by its parts
 abbrev pub face_at : ℕ → List Point → List Triangle → Vector → Face

@@ -1,47 +1,31 @@
-use Rattle.std.proofs.Common.{ap, arith, refl, ◌+◌, ◌-◌, ◌<◌, ◌∙◌}
-use Rattle.scene_field.specs.Fields.{corner_at, corners_at}
-use Rattle.shape_outline_walls.proofs.Drawings.{faces_start, faces_next, faces_end}
+use Rattle.std.proofs.Common.{ap, arith, le_antisymm, ◌-◌, ◌<◌, ◌∙◌}
+use Rattle.lists.specs.Loops.{list}
+use Rattle.scene_field.specs.Fields.{corner_at}
+use Rattle.face.proofs.Canvases.{draws_none}
 use Rattle.face.proofs.Draws.{countable_less}
-use Rattle.shape_outline_walls.proofs.WallLaws.{wall_drew, wall_countable}
-use Rattle.shape.specs.Shapes.{wall, walls}
+use Rattle.shape.specs.Shapes.{walls}
+use Rattle.shape_outline_corners.specs.Contract.Outlines.{corners_of}
+use Rattle.shape_outline_walls.proofs.WallLaws.{wall_drew, walls_next, walls_countable}
 use Rattle.shape_outline_walls.proofs.walls.Goals as goal
 
 pub loop-k-init : goal.loop-k-init
-unfolding walls
-loop-k-init c = let a = c.args in
-    (omega arith, refl, refl, refl, countable_less c.requires.2 (omega arith) (omega arith), faces_start a.limit a.before (wall (corners_at a.s.now a.n a.at) a.normal) a.edges _)
+unfolding walls list
+loop-k-init c = draws_none
 
-pub overflow_add-k : goal.overflow_add-k
-overflow_add-k c = omega (arith, c.loop-k-test.true, c.requires.0, c.requires.1, c.ranges)
-
-pub quad-t-requires : goal.quad-t-requires
-quad-t-requires c = countable_less c.loop-k.invariant.4 (omega arith) (omega arith)
-
-pub loop-k-smaller : goal.loop-k-smaller
-loop-k-smaller c = omega (arith, c.loop-k-test.true)
+pub quad-requires : goal.quad-requires
+quad-requires c = let a = c.args in
+    let k = c.loop-k.k in
+    let below = c.loop-k-test.true in
+    countable_less (walls_countable (corners_of a.row) a.normal k a.edges (a.edges - k) c.requires.2 c.loop-k.invariant (omega arith)) (omega arith) (omega arith)
 
 pub loop-k-preserved : goal.loop-k-preserved
 loop-k-preserved c = let a = c.args in
-    let s = a.s.now in
-    let cs = corners_at s a.n a.at in
-    let l = c.loop-k in
-    let k = l.k in
-    let i = l.invariant in
+    let r = a.row in
+    let k = c.loop-k.k in
     let below = c.loop-k-test.true in
-    let h : k < a.n = omega (arith, below, c.requires.1) in
-    let reached = c.corner_at-b.ensures ∙ ap (corner_at s) c.next_place.ensures.0 in
-    let drew = wall_drew s a.n a.at a.normal k h c.corner_at-a.ensures reached c.sub.ensures c.cross-out.ensures (c.quad-t.ensures 1) in
-    (omega arith, c.vs-1.given ∙ i.1, c.ns-1.given ∙ i.2, c.is-1.given ∙ i.3, wall_countable cs a.normal k (a.edges - k) (a.edges - (k + 1)) i.4 drew (omega arith), faces_next a.limit a.before (wall cs a.normal) a.edges k below drew i.5)
+    let h : k < r.n = omega (arith, below, c.requires.1) in
+    let reached = c.corner_at-b.ensures ∙ ap (corner_at r.s.now) c.next_place.ensures.0 in
+    walls_next (corners_of r) a.normal k c.loop-k.invariant (wall_drew r.s.now r.n r.at a.normal k h c.corner_at-a.ensures reached c.sub.ensures c.cross-out.ensures c.quad.ensures)
 
 pub returns : goal.returns
-returns c = let a = c.args in
-    record { after = faces_end a.limit a.before (wall (corners_at a.s.now a.n a.at) a.normal) a.edges c.loop-k.k c.loop-k-test.false c.loop-k.invariant.5 }
-
-pub shape_of-vs : goal.shape_of-vs
-shape_of-vs c = c.loop-k.invariant.1
-
-pub shape_of-ns : goal.shape_of-ns
-shape_of-ns c = c.loop-k.invariant.2
-
-pub shape_of-is : goal.shape_of-is
-shape_of-is c = c.loop-k.invariant.3
+returns c = rw (le_antisymm c.loop-k.auto.k-end c.loop-k-test.false) at c.loop-k.invariant

@@ -1,7 +1,6 @@
--- A ring of points held beside its centre, as an ellipse of crates/shape/specs/Shapes.antt. Definitions only.
-use Rattle.std.specs.Prelude.{List}
-use Rattle.coords.specs.declared.Point.{Point}
-use Rattle.shape.specs.Shapes.{Ellipse}
+-- An ellipse of the code is one of crates/shape/specs/Shapes.antt. Definitions only.
+use Rattle.shape.specs.Shapes as shapes
+use Rattle.shape_round_sweep.specs.declared.ellipses.Ellipse.{Ellipse}
 
-abbrev pub ring_about : Point → List Point → Ellipse
-ring_about centre ring = record { centre = centre; ring = ring }
+abbrev pub ellipse_of : Ellipse → shapes.Ellipse
+ellipse_of e = record { centre = e.centre; ring = e.ring }

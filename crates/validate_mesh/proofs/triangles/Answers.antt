@@ -1,35 +1,28 @@
 -- The verdict from triangle t on is the verdict from 0 on.
-use Rattle.std.proofs.Common.{arith, refl, sym, ◌∙◌, ◌≡◌}
+use Rattle.std.proofs.Common.{refl, rules, sym, ◌∙◌}
 use Rattle.coords.specs.Buffers.{vertices_in}
 use Rattle.validate.specs.Contract.Validate.{or_later}
-use Rattle.validate.specs.declared.Verdict.{Verdict}
-use Rattle.validate.specs.declared.Verdict.TheVariants.{Ok, Empty, NonFiniteVertex, IndexOutOfRange, DegenerateTriangle}
-use Rattle.validate_mesh.proofs.Steps.{next, all_done}
+use Rattle.validate_mesh.proofs.Steps.{turn, all_done}
 use Rattle.validate_mesh.proofs.triangles.Goals as goal
 
--- a verdict that is not Ok stands, whatever comes later
-settled : (v : Verdict) (later : Verdict) → (v ≡ Ok → ⊥) → or_later v later ≡ v
-unfolding or_later
-settled Ok later h = absurd (h refl)
-settled Empty later h = refl
-settled (NonFiniteVertex i) later h = refl
-settled (IndexOutOfRange t i n) later h = refl
-settled (DegenerateTriangle t) later h = refl
+pub loop-t-init : goal.loop-t-init
+loop-t-init c = search rules
 
--- the triangle's verdict, or that of the later ones, is the verdict from 0 on
-pub returns-in_default : goal.returns-in_default
-returns-in_default c =
-    let a = c.args in
-    let l = c.loop-i in
-    sym (settled c.triangle-v.result _ c.in_default.not-Ok) ∙ sym (next a.limit (vertices_in a.vertices.now) l.t a.indices.now l.i c.loop-i-test.true refl c.index_or-b.ensures c.index_or-c.ensures c.triangle-v.ensures) ∙ l.invariant.2
-
-pub loop-i-preserved : goal.loop-i-preserved
+pub loop-t-preserved : goal.loop-t-preserved
 unfolding or_later
-loop-i-preserved c =
-    let a = c.args in
-    let l = c.loop-i in
-    (omega arith, omega arith, rw c.in-Ok.is at (sym (next a.limit (vertices_in a.vertices.now) l.t a.indices.now l.i c.loop-i-test.true refl c.index_or-b.ensures c.index_or-c.ensures c.triangle-v.ensures) ∙ l.invariant.2))
+loop-t-preserved c =
+    let h = c.in-Some.ensures.steps in
+    let i = c.loop-t.invariant in
+    (h.0.0 ∙ i.0, rw c.in_ok-triangle.was at (turn c.args.limit (vertices_in c.args.vertices.now) _ _ _ i.0 h.0.1.0 h.0.1.1 h.0.1.2 refl c.index_or-b.ensures c.index_or-c.ensures c.triangle.ensures h.1 h.2 i.1))
+
+-- a triangle that is not in order is the verdict, whatever comes later
+pub returns-in_err-triangle : goal.returns-in_err-triangle
+unfolding or_later
+returns-in_err-triangle c =
+    let h = c.in-Some.ensures.steps in
+    let i = c.loop-t.invariant in
+    let e = rw c.in_err-triangle.was at (turn c.args.limit (vertices_in c.args.vertices.now) _ _ _ i.0 h.0.1.0 h.0.1.1 h.0.1.2 refl c.index_or-b.ensures c.index_or-c.ensures c.triangle.ensures h.1 h.2 i.1) in
+    search rules
 
 pub returns : goal.returns
-returns c = let a = c.args in
-    sym (all_done a.limit (vertices_in a.vertices.now) c.loop-i.t a.indices.now c.loop-i.i (omega arith)) ∙ c.loop-i.invariant.2
+returns c = sym (all_done c.args.limit (vertices_in c.args.vertices.now) _ _ c.in-None.ensures.steps.0.1.0) ∙ c.loop-t.invariant.1

@@ -7,4 +7,4 @@ use Rattle.coords.proofs.Point.lerp.Goals as goal
 pub returns : goal.returns
 unfolding lerp
 returns c = let a = c.args in
-    c.add.ensures ∙ ap (moved a.self) (c.scale.ensures ∙ ap (λ (v : Vector). scale v a.t) c.sub.ensures)
+    c.add.ensures ∙ ap (moved a.self) (c.mul.ensures ∙ ap (λ (v : Vector). scale v a.t) c.sub.ensures)

@@ -1,4 +1,4 @@
--- `Vector::dot` meets its contract: it is the definition. Assumes nothing.
+-- The operation is the definition. Assumes nothing.
 use Rattle.std.proofs.Common.{refl}
 use Rattle.coords_vector.specs.Vectors.{dot}
 use Rattle.coords_vector.proofs.Vector.dot.Goals as goal

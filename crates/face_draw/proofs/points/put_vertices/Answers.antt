@@ -16,9 +16,6 @@ pub loop-k-init : goal.loop-k-init
 unfolding vertex_numbers normal_numbers vertices_in
 loop-k-init c = let a = c.args in
     let n = length a.points.now / 3 in (
-      omega arith,
-      refl,
-      refl,
       store_start vertex_record 3 (λ p. refl) (vertex_at a.points.now) n a.at a.vs.now,
       store_start normal_record 3 (λ v. refl) (λ i. a.normal) n a.at a.ns.now ∙ rw (list_constant a.normal n 0, length_vertices a.points.now),
     )
@@ -27,23 +24,14 @@ pub loop-k-preserved : goal.loop-k-preserved
 loop-k-preserved c = let a = c.args in
     let l = c.loop-k in
     let n = length a.points.now / 3 in (
-      omega arith,
-      c.put_floats.auto.s ∙ l.invariant.1,
-      c.put_floats-in-loop-k.auto.s ∙ l.invariant.2,
-      store_next vertex_record 3 (λ p. refl) (vertex_at a.points.now) n a.at l.k l.vs _ _ (omega arith) (point_stored l.vs (3 * (a.at + l.k)) c.vertex_at-p.ensures c.put_floats.ensures) l.invariant.3,
-      store_next normal_record 3 (λ v. refl) (λ i. a.normal) n a.at l.k l.ns _ _ (omega arith) c.put_floats-in-loop-k.ensures l.invariant.4,
+      store_next vertex_record 3 (λ p. refl) (vertex_at a.points.now) n a.at l.k l.vs _ _ (omega arith) (point_stored l.vs (3 * (a.at + l.k)) c.vertex_at-p.ensures c.put_three.ensures) l.invariant.0,
+      store_next normal_record 3 (λ v. refl) (λ i. a.normal) n a.at l.k l.ns _ _ (omega arith) c.put_three-in-loop-k.ensures l.invariant.1,
     )
 
 pub returns : goal.returns
 returns c = let a = c.args in
     let l = c.loop-k in
     let n = length a.points.now / 3 in (
-      store_end vertex_record 3 (λ p. refl) (vertex_at a.points.now) n a.at l.k l.vs _ c.loop-k-test.false l.invariant.3,
-      store_end normal_record 3 (λ v. refl) (λ i. a.normal) n a.at l.k l.ns _ c.loop-k-test.false l.invariant.4,
+      store_end vertex_record 3 (λ p. refl) (vertex_at a.points.now) n a.at l.k l.vs _ c.loop-k-test.false l.invariant.0,
+      store_end normal_record 3 (λ v. refl) (λ i. a.normal) n a.at l.k l.ns _ c.loop-k-test.false l.invariant.1,
     )
-
-pub shape_of-vs : goal.shape_of-vs
-shape_of-vs c = c.loop-k.invariant.1
-
-pub shape_of-ns : goal.shape_of-ns
-shape_of-ns c = c.loop-k.invariant.2

@@ -1,4 +1,4 @@
-use Rattle.std.proofs.Common.{length, replicate, ◌*◌, ◌+◌, ◌-◌, ◌≡◌, ◌≤◌}
+use Rattle.std.proofs.Common.{length, replicate, ◌*◌, ◌+◌, ◌-◌, ◌≡◌}
 use lib.Seq.{sets}
 use Rattle.coords.specs.Buffers.{vertex_record, vertex_numbers, normal_record, normal_numbers, vertex_at, vertices_in}
 use Rattle.lists.specs.Loops.{list, join}
@@ -6,9 +6,5 @@ use Rattle.face_draw.proofs.points.put_vertices.Given as goal
 
 abbrev pub invariant-loop-k : goal.invariant-loop-k
 invariant-loop-k l =
-    (l.k ≤ l.n) × (length l.vs ≡ length l.initial.vs) × (length l.ns ≡ length l.initial.ns)
-    × (sets l.vs (3 * (l.at + l.k)) (join vertex_record (list (vertex_at l.points) (l.n - l.k) l.k)) ≡ sets l.initial.vs (3 * l.at) (vertex_numbers (vertices_in l.points)))
+    (sets l.vs (3 * (l.at + l.k)) (join vertex_record (list (vertex_at l.points) (l.n - l.k) l.k)) ≡ sets l.initial.vs (3 * l.at) (vertex_numbers (vertices_in l.points)))
     × (sets l.ns (3 * (l.at + l.k)) (join normal_record (list (λ i. l.normal) (l.n - l.k) l.k)) ≡ sets l.initial.ns (3 * l.at) (normal_numbers (replicate (length (vertices_in l.points)) l.normal)))
-
-abbrev pub decreases-loop-k : goal.decreases-loop-k
-decreases-loop-k l = l.n - l.k

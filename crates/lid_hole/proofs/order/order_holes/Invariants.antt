@@ -7,6 +7,3 @@ abbrev pub invariant-loop-g : goal.invariant-loop-g
 invariant-loop-g l =
     (length l.order ≡ length l.initial.order) × (l.g ≤ length l.small) × (l.c ≤ l.g) × (loop (order_step l.rights l.small) (length l.small - l.g) l.g (take l.c l.order) ≡ order_of l.rights l.small)
     × (drop l.c l.order ≡ drop l.c l.initial.order)
-
-abbrev pub decreases-loop-g : goal.decreases-loop-g
-decreases-loop-g l = length l.small - l.g

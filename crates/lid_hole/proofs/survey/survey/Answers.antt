@@ -8,7 +8,7 @@ use Rattle.lists.proofs.Lists.{length_list}
 use Rattle.lists.proofs.Loops.{fold_start, fold_next, fold_end}
 use Rattle.lid_hole.specs.Contract.Holes.{hole_corners}
 use Rattle.lid.specs.Rings.{too_small}
-use Rattle.lid.specs.Contract.Rings.{flats}
+use Rattle.lid_flat.specs.Flats.{flats_in}
 use Rattle.lid_hole.proofs.survey.survey.Goals as goal
 
 pub loop-g-init : goal.loop-g-init
@@ -16,16 +16,16 @@ loop-g-init c = (refl, refl, refl, refl, omega arith, omega arith, simp sub-zero
 
 pub survey_hole-s-requires : goal.survey_hole-s-requires
 survey_hole-s-requires c = let a = c.args in
-    (c.loop-g-test.true, c.requires.counts_bound.0, omega (arith, count_low a.outer a.counts.now c.loop-g.g c.loop-g-test.true))
+    (c.loop-g-test.true, c.requires.counts_bound.0, omega (arith, count_low a.counts.outer a.counts.holes.now c.loop-g.g c.loop-g-test.true))
 
 pub loop-g-preserved : goal.loop-g-preserved
 loop-g-preserved c = let a = c.args in
     let l = c.loop-g in
     let s = c.survey_hole-s in
     let p = c.put_skip-n in
-    let small : ℕ → Bool = λ g. too_small (flats a.xs.now a.ys.now) (hole_corners a.outer a.counts.now g) in
+    let small : ℕ → Bool = λ g. too_small (flats_in a.polygon) (hole_corners a.counts.outer a.counts.holes.now g) in
     let more = c.loop-g-test.true in
-    let n = length a.counts.now in (
+    let n = length a.counts.holes.now in (
       s.auto.hole ∙ l.invariant.0,
       simp length-set l.invariant.1,
       simp length-set l.invariant.2,
@@ -57,8 +57,8 @@ pub returns : goal.returns
 returns c = let l = c.loop-g in
     let a = c.args in
     let left = c.loop-g-test.false in
-    let e = skips_end (λ g. too_small (flats a.xs.now a.ys.now) (hole_corners a.outer a.counts.now g)) (length a.counts.now) l.g left in
-    let n = length a.counts.now in record {
+    let e = skips_end (λ g. too_small (flats_in a.polygon) (hole_corners a.counts.outer a.counts.holes.now g)) (length a.counts.holes.now) l.g left in
+    let n = length a.counts.holes.now in record {
       rights_after = over_is n l.rights _ _ (sym (length_list _ _ _)) (list_put_end _ l.rights _ l.g l.invariant.6 left l.invariant.4) (behind_later l.g n l.rights _ l.invariant.4 l.invariant.10);
       small_after = over_is n l.small _ _ (sym (length_list _ _ _)) (list_put_end _ l.small _ l.g l.invariant.7 left l.invariant.4) (behind_later l.g n l.small _ l.invariant.4 l.invariant.11);
       value = omega (arith, ap length e, l.invariant.8);

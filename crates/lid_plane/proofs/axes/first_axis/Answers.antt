@@ -3,4 +3,4 @@ use Rattle.lid_plane.proofs.axes.first_axis.Goals as goal
 
 pub returns : goal.returns
 unfolding first_axis
-returns c = rw (c.normalize_or.ensures, c.sub.ensures, c.scale.ensures, c.dot.ensures, c.axis_across-e.ensures)
+returns c = rw (c.normalize_or.ensures, c.sub.ensures, c.mul.ensures, c.dot.ensures, c.axis_across-e.ensures)

@@ -12,4 +12,4 @@ returns-then-t-eq0 c = rw (eq-eqb _ _ c.if-t-eq0.true)
 pub returns : goal.returns
 unfolding span_by span_numbers join
 returns c = let a = c.args in
-    rw (ne_eqb _ _ c.if-t-eq0.false, c.put_number.ensures, c.put_four.ensures) (sets_fifth a.spans.now (5 * a.p.spans) a.id a.p.vertices (a.p.vertices + a.t.vertices) (3 * a.p.kept) (3 * (a.p.kept + a.t.kept)))
+    rw (ne_eqb _ _ c.if-t-eq0.false, c.put.ensures, c.put_four.ensures) (sets_fifth a.spans.now (5 * a.p.spans) a.id a.p.vertices (a.p.vertices + a.t.vertices) (3 * a.p.kept) (3 * (a.p.kept + a.t.kept)))

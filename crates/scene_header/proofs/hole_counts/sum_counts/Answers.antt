@@ -11,16 +11,16 @@ returns-then-s-i c = let a = c.args in
 pub loop-k-init : goal.loop-k-init
 unfolding counts_at
 loop-k-init c = let a = c.args in
-    (omega arith, omega arith, sum_start (λ j. u16_at a.s.now (a.i + 2 * j)) a.n)
+    (omega arith, sum_start (λ j. u16_at a.s.now (a.i + 2 * j)) a.n)
 
 pub loop-k-preserved : goal.loop-k-preserved
 loop-k-preserved c = let a = c.args in
     let l = c.loop-k in
-    let more = sum_next (λ j. u16_at a.s.now (a.i + 2 * j)) a.n l.k l.sum _ c.loop-k-test.true l.invariant.2 in
-    (omega arith, omega arith, omega (arith, more))
+    let more = sum_next (λ j. u16_at a.s.now (a.i + 2 * j)) a.n l.k l.sum _ c.loop-k-test.true l.invariant.1 in
+    (omega arith, omega (arith, more))
 
 pub returns : goal.returns
 returns c = let a = c.args in
     let l = c.loop-k in
-    let all = sum_end (λ j. u16_at a.s.now (a.i + 2 * j)) a.n l.k l.sum _ c.loop-k-test.false l.invariant.2 in
+    let all = sum_end (λ j. u16_at a.s.now (a.i + 2 * j)) a.n l.k l.sum _ c.loop-k-test.false l.invariant.1 in
     (all, omega arith)

@@ -1,4 +1,4 @@
-use Rattle.std.proofs.Common.{drop, length, take, ◌*◌, ◌+◌, ◌-◌, ◌≡◌, ◌≤◌}
+use Rattle.std.proofs.Common.{drop, length, take, ◌*◌, ◌+◌, ◌≡◌, ◌≤◌}
 use Rattle.lid_plane.specs.Contract.Steps.{flat_on}
 use Rattle.lists.specs.Loops.{list}
 use Rattle.scene_field.specs.Fields.{point_at}
@@ -6,9 +6,6 @@ use Rattle.shape_outline_lid.proofs.cut.lay_flat.Given as goal
 
 abbrev pub invariant-loop-k : goal.invariant-loop-k
 invariant-loop-k l =
-    (l.k ≤ l.n) × (length l.work ≡ length l.initial.work) × (take l.k l.work ≡ list (λ j. (flat_on (point_at l.s l.at) l.e1 l.e2 (point_at l.s (l.at + 24 * j))).x) l.k 0)
-    × (take l.k (drop l.n l.work) ≡ list (λ j. (flat_on (point_at l.s l.at) l.e1 l.e2 (point_at l.s (l.at + 24 * j))).y) l.k 0)
+    (l.k ≤ l.n) × (length l.work ≡ length l.initial.work) × (take l.k l.work ≡ list (λ j. (flat_on (point_at l.row.s.now l.row.at) l.e1 l.e2 (point_at l.row.s.now (l.row.at + 24 * j))).x) l.k 0)
+    × (take l.k (drop l.n l.work) ≡ list (λ j. (flat_on (point_at l.row.s.now l.row.at) l.e1 l.e2 (point_at l.row.s.now (l.row.at + 24 * j))).y) l.k 0)
     × (drop (2 * l.n) l.work ≡ drop (2 * l.n) l.initial.work)
-
-abbrev pub decreases-loop-k : goal.decreases-loop-k
-decreases-loop-k l = l.n - l.k

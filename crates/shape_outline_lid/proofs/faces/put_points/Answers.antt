@@ -12,11 +12,8 @@ loop-k-init c = let a = c.args in
 
 pub loop-k-preserved : goal.loop-k-preserved
 loop-k-preserved c = let a = c.args in
-    (omega arith, c.points-1.given ∙ c.loop-k.invariant.1, store_next vertex_record 3 (λ p. refl) (λ j. point_at a.s.now (a.at + 24 * j)) a.n 0 c.loop-k.k c.loop-k.points _ _ c.loop-k-test.true (rw (zero-add c.loop-k.k, ← c.point_at-p.ensures) c.put_floats.ensures) c.loop-k.invariant.2)
+    (omega arith, c.put_three.auto.s ∙ c.loop-k.invariant.1, store_next vertex_record 3 (λ p. refl) (λ j. point_at a.s.now (a.at + 24 * j)) a.n 0 c.loop-k.k c.loop-k.points _ _ c.loop-k-test.true (rw (zero-add c.loop-k.k, ← c.point_at-p.ensures) c.put_three.ensures) c.loop-k.invariant.2)
 
 pub returns : goal.returns
 returns c = let a = c.args in
     store_end vertex_record 3 (λ p. refl) (λ j. point_at a.s.now (a.at + 24 * j)) a.n 0 c.loop-k.k c.loop-k.points _ c.loop-k-test.false c.loop-k.invariant.2
-
-pub shape_of-points : goal.shape_of-points
-shape_of-points c = c.loop-k.invariant.1

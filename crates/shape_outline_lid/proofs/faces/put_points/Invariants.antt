@@ -8,6 +8,3 @@ use Rattle.shape_outline_lid.proofs.faces.put_points.Given as goal
 
 abbrev pub invariant-loop-k : goal.invariant-loop-k
 invariant-loop-k l = (l.k ≤ l.n) × (length l.points ≡ length l.initial.points) × (sets l.points (3 * (0 + l.k)) (join vertex_record (list (λ j. point_at l.s (l.at + 24 * j)) (l.n - l.k) l.k)) ≡ sets l.initial.points 0 (vertex_numbers (points_at l.s l.n l.at)))
-
-abbrev pub decreases-loop-k : goal.decreases-loop-k
-decreases-loop-k l = l.n - l.k

@@ -1,11 +1,8 @@
-use Rattle.std.proofs.Common.{◌*◌, ◌+◌, ◌-◌, ◌<◌, ◌≡◌, ◌≤◌}
+use Rattle.std.proofs.Common.{◌*◌, ◌+◌, ◌-◌, ◌≡◌, ◌≤◌}
 use Rattle.scene_field.specs.Fields.{section_at, sections_at}
 use Rattle.shape.specs.Price.{pairs_price}
 use Rattle.shape_price.proofs.sweep.sweep_price.Given as goal
 
 abbrev pub invariant-loop-k : goal.invariant-loop-k
 invariant-loop-k l =
-    (l.k < l.n) × (l.a ≡ section_at l.s (l.at + 48 * l.k)) × (l.sum ≡ pairs_price (sections_at l.s (l.k + 1) l.at)) × (l.sum ≤ 8 * l.k)
-
-abbrev pub decreases-loop-k : goal.decreases-loop-k
-decreases-loop-k l = l.n - l.k
+    (l.a ≡ section_at l.s (l.at + 48 * (l.k - 1))) × (l.sum ≡ pairs_price (sections_at l.s l.k l.at)) × (l.sum ≤ 8 * (l.k - 1))

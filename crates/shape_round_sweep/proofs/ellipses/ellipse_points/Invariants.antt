@@ -1,4 +1,4 @@
-use Rattle.std.proofs.Common.{length, take, ◌-◌, ◌≡◌, ◌≤◌}
+use Rattle.std.proofs.Common.{drop, replicate, ◌++◌, ◌≡◌}
 use Rattle.lists.specs.Loops.{list}
 use Rattle.angle_circle.specs.Circle.{angle}
 use Rattle.angle_circle.proofs.Table.{Tables}
@@ -6,7 +6,4 @@ use Rattle.shape.specs.Shapes.{ellipse_point}
 use Rattle.shape_round_sweep.proofs.ellipses.ellipse_points.Given as goal
 
 abbrev pub invariant-loop-k : goal.invariant-loop-k
-invariant-loop-k l = (l.k ≤ 16) × Tables angle l.cos l.sin × (length l.ring ≡ 16) × (take l.k l.ring ≡ list (ellipse_point l.centre l.across l.up) l.k 0)
-
-abbrev pub decreases-loop-k : goal.decreases-loop-k
-decreases-loop-k l = 16 - l.k
+invariant-loop-k l = Tables angle l.cos l.sin × (l.ring ≡ list (ellipse_point l.centre l.across l.up) l.k 0 ++ drop l.k (replicate 16 l.centre))

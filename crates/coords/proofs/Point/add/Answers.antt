@@ -1,8 +1,0 @@
--- `Point::add` meets its contract: it is the definition. Assumes nothing.
-use Rattle.std.proofs.Common.{refl}
-use Rattle.coords.specs.Coords.{moved}
-use Rattle.coords.proofs.Point.add.Goals as goal
-
-pub returns : goal.returns
-unfolding moved
-returns c = refl

@@ -1,8 +1,0 @@
--- `Vector::add` meets its contract: it is the definition. Assumes nothing.
-use Rattle.std.proofs.Common.{refl}
-use Rattle.coords_vector.specs.Vectors.{plus}
-use Rattle.coords_vector.proofs.Vector.add.Goals as goal
-
-pub returns : goal.returns
-unfolding plus
-returns c = refl

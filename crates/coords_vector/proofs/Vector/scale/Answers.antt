@@ -1,8 +1,0 @@
--- `Vector::scale` meets its contract: it is the definition. Assumes nothing.
-use Rattle.std.proofs.Common.{refl}
-use Rattle.coords_vector.specs.Vectors.{scale}
-use Rattle.coords_vector.proofs.Vector.scale.Goals as goal
-
-pub returns : goal.returns
-unfolding scale
-returns c = refl

@@ -1,8 +1,0 @@
--- `Vector::sub` meets its contract: it is the definition. Assumes nothing.
-use Rattle.std.proofs.Common.{refl}
-use Rattle.coords_vector.specs.Vectors.{less}
-use Rattle.coords_vector.proofs.Vector.sub.Goals as goal
-
-pub returns : goal.returns
-unfolding less
-returns c = refl

@@ -1,9 +1,0 @@
--- `quote::read_full` ends: each turn reads at least one byte. Assumes nothing.
-use Rattle.std.proofs.Common.{length, ◌-◌, ◌≡◌, ◌≤◌}
-use Rattle.quote.proofs.read_full.Given as goal
-
-abbrev pub invariant-loop-done : goal.invariant-loop-done
-invariant-loop-done g l = (length l.to ≡ length l.initial.to) × (l.done ≤ length l.to)
-
-abbrev pub decreases-loop-done : goal.decreases-loop-done
-decreases-loop-done g l = length l.initial.to - l.done

@@ -1,0 +1,2 @@
+-- What only serves contracts: no exported contract rests on it.
+pub mod Writers
