@@ -29,7 +29,7 @@ pub fn splice(ring: &mut [u32], at: RingPlace, hole: &[u32], j: RingPlace)
     let h = hole.len();
     let back = ring[t];
     let room = &mut ring[t + 1..];
-    room.rotate_right(h + 2);
+    room.copy_within(..room.len() - (h + 2), h + 2);
     room[..h - b].copy_from_slice(&hole[b..]);
     room[h - b..h + 1].copy_from_slice(&hole[..b + 1]);
     room[h + 1] = back;
