@@ -1,4 +1,5 @@
 -- A canvas on which nothing has been drawn, and a shape's stages drawn on it. Assumes nothing.
+use mathlib.Core.Path.{◌≡◌, sym}
 use mathlib.Core.List.{List}
 use Rattle.object.specs.Object.{Shape}
 use Rattle.face.specs.declared.Canvas.{Canvas}
@@ -16,3 +17,6 @@ cleared_same p = record { vertices = p.vertices; normals = p.normals; indices = 
 pub drew_object : (sh : Shape) (c : Canvas) {b : Canvas} {ts : List Tally} → DrawsStages (stages_of sh) ts (cleared c) b
     → DrewStages c.limit (stages_of sh) c.before (drawing (tally 0 0 0) c.vertices.now c.normals.now c.indices.now) (drawing (last_of ts) b.vertices.now b.normals.now b.indices.now) ts
 drew_object sh c p = rw (stages_last c.limit sh p.drew) p.drew
+
+pub counts_left : (sh : Shape) (c : Canvas) {b : Canvas} {ts : List Tally} → DrawsStages (stages_of sh) ts (cleared c) b → b.tally ≡ last_of ts
+counts_left sh c p = sym (stages_last c.limit sh p.drew)

@@ -29,12 +29,14 @@ pub record DrewObject (limit : Float) (sh : Shape) (before : ℕ) (vs ns : List 
   pub entries : r.entries ≡ length (log_of sh)
   pub log : ls' ≡ sets ls 0 (log_numbers (log_of sh))
 
--- the same on the canvas, which was c and is c', with the lent log
+-- the same on the canvas, which was c and is c' with the counts after the last stage, with the lent log
 pub record DrawsObject (sh : Shape) (r : Drawn) (c c' : Canvas) (ls : Slice ℕ) : Type 0 where
   pub drew : DrewObject c.limit sh c.before c.vertices.now c.normals.now c.indices.now ls.entry.now r c'.vertices.now c'.normals.now c'.indices.now ls.exit.now
+  pub counts : c'.tally ≡ last_of r.after
   pub same : SameLoans c c'
 
 -- of a shape without a log, where none is lent: it holds of any
 pub record DrawsUnlogged (sh : Shape) (r : Drawn) (c c' : Canvas) : Type 0 where
   pub drew : (ls : List ℕ) → DrewObject c.limit sh c.before c.vertices.now c.normals.now c.indices.now ls r c'.vertices.now c'.normals.now c'.indices.now ls
+  pub counts : c'.tally ≡ last_of r.after
   pub same : SameLoans c c'

@@ -1,4 +1,4 @@
-use Rattle.std.proofs.Common.{arith}
+use Rattle.std.proofs.Common.{arith, refl}
 use Rattle.face.proofs.Canvases.{same_then}
 use Rattle.shape_outline_walls.proofs.WallLaws.{start_countable}
 use Rattle.shape_outline.proofs.Cleared.{cleared_same}
@@ -23,6 +23,7 @@ returns-then-closed c = let a = c.args in
     let capped = c.cap-c.ensures in
     record {
       drew = closed_in a.s.now a.i a.closed a.outer a.holes a.corners c.outline_at-o.ensures c.requires.0 a.canvas.now c.if-closed.true walls capped;
+      counts = refl;
       same = same_then (cleared_same walls.same) capped.drew.same;
     }
 
@@ -36,5 +37,6 @@ returns c = let a = c.args in
     let walls = c.all_walls.ensures in
     record {
       drew = open_in a.s.now a.i a.closed a.outer a.holes a.corners c.outline_at-o.ensures c.requires.0 a.canvas.now c.if-closed.false walls c.open_price.ensures;
+      counts = refl;
       same = cleared_same walls.same;
     }
